@@ -1,0 +1,9 @@
+pub mod Words
+pub mod Places
+pub mod Kind
+pub mod Refusals
+pub mod Protocol
+pub mod Orderly
+pub mod Run
+pub mod Laws
+pub mod Course

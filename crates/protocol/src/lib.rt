@@ -1,0 +1,19 @@
+//! What every vote is held against: words and rows, kinds of value, refusals, voting machines, runs and the laws.
+
+mod machine;
+mod refusal;
+mod runs;
+mod setup;
+mod value;
+mod word;
+
+pub use machine::FullVote;
+pub use machine::GradedVote;
+pub use machine::Machine;
+pub use machine::WeakVote;
+pub use refusal::Refusal;
+pub use runs::runs_exist;
+pub use setup::Setup;
+pub use value::Value;
+pub use word::SILENT;
+pub use word::heard_at;

@@ -1,0 +1,25 @@
+ghost use mathlib.Core.Path.{_≡_};
+ghost use Rattle.protocol.specs.Kind.{Kind, Lawful};
+
+/// A kind of value that stations vote on.
+pub trait Value: Copy {
+    ghost kind: { Kind Self };
+
+    law lawful: { Lawful kind };
+
+    /// The word that stands for this value.
+    fn word(self) -> u64
+        ensures { λ r. ⌜ r ≡ kind .word self ⌝ };
+
+    /// The value that a word stands for, if any.
+    fn read(word: u64) -> Option<Self>
+        ensures { λ r. ⌜ r ≡ kind .reads word ⌝ };
+
+    /// The order of the values; of two different ones exactly one is less.
+    fn less(self, other: Self) -> bool
+        ensures { λ r. ⌜ r ≡ kind .less self other ⌝ };
+
+    /// The least value, which stands where nothing was entered or settled.
+    fn rest() -> Self
+        ensures { λ r. ⌜ r ≡ kind .rest ⌝ };
+}

@@ -1,0 +1,2 @@
+pub mod LexicalLaw
+pub mod PointLaw

@@ -1,0 +1,9 @@
+//! The two kinds of value that the stations vote on: the switch and the operating point.
+
+mod point;
+mod switch;
+
+pub use point::Point;
+pub use point::value::PointValue;
+pub use switch::Switch;
+pub use switch::SwitchValue;

@@ -1,0 +1,84 @@
+ghost use mathlib.Core.Path.{_≡_};
+ghost use Prim.Native.Nat.{_*_};
+ghost use lib.IntN.{natAbs};
+ghost use Rattle.values.specs.PointKind.{pointKind, newPoint};
+use crate::point::Point;
+use protocol::Refusal;
+use protocol::Value;
+
+impl Point {
+    /// The point of a pressure in tenths of a bar and a speed in rpm, negative for anticlockwise.
+    pub fn new(pressure: u64, speed: i64) -> Result<Point, Refusal>
+        ensures { λ r. ⌜ r ≡ newPoint pressure speed ⌝ }
+    {
+        if pressure > 7000 {
+            return Err(Refusal::Pressure);
+        }
+        if speed < -6000 || speed > 6000 {
+            return Err(Refusal::Speed);
+        }
+        Ok(Point { pressure: pressure as u16, speed: speed as i16 })
+    }
+
+    /// The pressure in tenths of a bar.
+    pub fn pressure(self) -> u16
+        ensures { λ r. ⌜ r ≡ self .pressure ⌝ }
+    {
+        self.pressure
+    }
+
+    /// The speed in rpm, negative for anticlockwise.
+    pub fn speed(self) -> i16
+        ensures { λ r. ⌜ r ≡ self .speed ⌝ }
+    {
+        self.speed
+    }
+
+    // The speed without its sign.
+    fn size(self) -> u16
+        ensures { λ r. ⌜ r ≡ natAbs (self .speed) ⌝ }
+    {
+        self.speed.unsigned_abs()
+    }
+
+    // The pressure times the speed without its sign.
+    fn load(self) -> u32
+        ensures { λ r. ⌜ r ≡ self .pressure * natAbs (self .speed) ⌝ }
+    {
+        self.pressure as u32 * self.size() as u32
+    }
+}
+
+pub impl Value for Point as PointValue {
+    ghost kind = { pointKind };
+
+    fn word(self) -> u64 {
+        self.pressure as u64 * 65536 + (self.speed as i32 + 6000) as u64
+    }
+
+    fn read(word: u64) -> Option<Point> {
+        let pressure = word / 65536;
+        let offset = word % 65536;
+        if pressure > 7000 || offset > 12000 {
+            return None;
+        }
+        Some(Point { pressure: pressure as u16, speed: offset as i16 - 6000 })
+    }
+
+    fn less(self, other: Point) -> bool {
+        if self.load() != other.load() {
+            return self.load() < other.load();
+        }
+        if self.pressure != other.pressure {
+            return self.pressure < other.pressure;
+        }
+        if self.size() != other.size() {
+            return self.size() < other.size();
+        }
+        self.speed < 0 && other.speed >= 0
+    }
+
+    fn rest() -> Point {
+        Point { pressure: 0, speed: 0 }
+    }
+}
