@@ -12,9 +12,9 @@ not-refused P s a =
     let h = a .takes in
     rw (
       or-from (ltb (s .n) 2) (ltb (P .maxStations) (s .n))
-        (le-ltb (s .n) 2 (h .two-stations)) (le-ltb (P .maxStations) (s .n) (h .max-stations)),
+          (le-ltb (s .n) 2 (h .two-stations)) (le-ltb (P .maxStations) (s .n) (h .max-stations)),
       or-from (ltb (P .maxFaulty) (s .t)) (leb (s .n) (3 * s .t))
-        (le-ltb (P .maxFaulty) (s .t) (h .max-faulty)) (lt-leb (s .n) (3 * s .t) (h .third)),
+          (le-ltb (P .maxFaulty) (s .t) (h .max-faulty)) (lt-leb (s .n) (3 * s .t) (h .third)),
       lt-leb (s .n) (s .own) (a .own-number),
       le-ltb 65535 (P .rounds (s .n) (s .t)) (h .in-time),
     )

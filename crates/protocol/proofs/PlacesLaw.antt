@@ -5,7 +5,7 @@ use mathlib.Core.Logic.{_⊎_, inl, inr, ⊎-elim}
 use Prim.Native.Nat.{ℕ, suc, zero, _+_, _≤_, _<_}
 use native.Mathlib.Omega.{arith}
 use lib.Dec.{eqb}
-use Rattle.std.proofs.shelf.Tests.{cases-bool, eqb-true, cases-eq}
+use Rattle.std.proofs.shelf.Tests.{cases-bool, eqb-true, eq-eqb, cases-eq}
 use Rattle.protocol.specs.Places.{count, places}
 
 -- each number that passes p passes q or r
@@ -88,3 +88,11 @@ place-of row w n h = ⊎-elim
     (λ f. (f .0, f .1, eqb-true (row (f .0)) w (f .2)))
     (λ f. absurd (omega (arith, count-none (λ j. eqb (row j) w) n f)))
     (some-or-none (λ j. eqb (row j) w) n)
+
+-- and a word that stands somewhere is counted
+pub place-counts : (row : ℕ → ℕ) (w n j : ℕ) → j < n → row j ≡ w → 0 < places row w n
+place-counts row w zero j l e = absurd (omega arith)
+place-counts row w (suc n) j l e = ⊎-elim
+    (λ d. rw (eq-eqb (row n) w (ap row (sym d) ∙ e)) (omega arith))
+    (λ d. let h = place-counts row w n j (omega arith) e in omega arith)
+    (cases-eq j n)

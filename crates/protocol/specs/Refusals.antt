@@ -24,3 +24,8 @@ refusal maxStations maxFaulty rounds s =
     (cond (ltb maxFaulty (s .t) || leb (s .n) (3 * s .t)) (Some Faulty)
     (cond (leb (s .n) (s .own)) (Some OwnNumber)
     (cond (ltb 65535 rounds) (Some Rounds) None)))
+
+-- how a vote begins: idle where the setup is refused
+abbrev pub unlessRefused : {S : Type 0} → Option Refusal → (idle begun : S) → S
+unlessRefused None idle begun = begun
+unlessRefused (Some r) idle begun = idle

@@ -3,7 +3,7 @@ ghost use Rattle.protocol.specs.Refusals.{refusal};
 use crate::refusal::Refusal;
 
 /// What a station knows of a vote before it begins.
-#[derive(Clone, Copy, PartialEq, Eq, Debug)]
+#[derive(Clone, Copy)]
 pub struct Setup {
     /// The number of stations.
     pub n: usize,

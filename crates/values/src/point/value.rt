@@ -17,7 +17,10 @@ impl Point {
         if speed < -6000 || speed > 6000 {
             return Err(Refusal::Speed);
         }
-        Ok(Point { pressure: pressure as u16, speed: speed as i16 })
+        Ok(Point {
+            pressure: pressure as u16,
+            speed: speed as i16,
+        })
     }
 
     /// The pressure in tenths of a bar.
@@ -62,7 +65,10 @@ pub impl Value for Point as PointValue {
         if pressure > 7000 || offset > 12000 {
             return None;
         }
-        Some(Point { pressure: pressure as u16, speed: offset as i16 - 6000 })
+        Some(Point {
+            pressure: pressure as u16,
+            speed: offset as i16 - 6000,
+        })
     }
 
     fn less(self, other: Point) -> bool {
@@ -79,6 +85,9 @@ pub impl Value for Point as PointValue {
     }
 
     fn rest() -> Point {
-        Point { pressure: 0, speed: 0 }
+        Point {
+            pressure: 0,
+            speed: 0,
+        }
     }
 }

@@ -1,0 +1,4 @@
+pub mod LeaderLaw
+pub mod PassLaw
+pub mod MajorityLaw
+pub mod CountLaw

@@ -1,0 +1,41 @@
+use mathlib.Core.Path.{_≡_, sym, _∙_, ap}
+use native.Mathlib.Omega.{arith}
+use Rattle.counting.specs.Leader.{view, leading}
+use Rattle.counting.proofs.LeaderLaw.{leading-some, leading-none, leader-is}
+use Rattle.counting.proofs.MajorityLaw.{majority-is-leader}
+use Rattle.counting.proofs.leaf.leader.Needs as need
+use Rattle.counting.proofs.leaf.leader.Needs.{in-Some-read, in-rest-read}
+
+pub returns-in-Some : need.returns-in-Some
+returns-in-Some g c =
+    let k = g .V·Value .kind in
+    let lawful = g .V·Value·met .lawful in
+    let row = view (c .args .setup) (c .args .said) (c .args .row .now) in
+    let h = c .in-Some .ensures tt in
+    leader-is k lawful row (c .args .setup .n) (c .in-Some .best)
+    (majority-is-leader k lawful row (c .args .setup .n) (c .in-Some .best) (h .0) (h .1))
+
+pub loop-j-again : need.loop-j-again
+loop-j-again g c =
+    let k = g .V·Value .kind in
+    let row = view (c .args .setup) (c .args .said) (c .args .row .now) in
+    elim (c .match-read .came) [
+      | in-Some-read w ↦
+          w .best-is ∙
+          (w .ahead-best .ensures ∙
+          leading-some k row (c .args .setup .n) (c .loop-j .j) (c .heard-at .result) (w .places-of .result)
+          (w .in-Some-read .v) (c .loop-j .best) (c .loop-j .inv) (c .heard-at .ensures)
+          (sym (c .read .ensures) ∙ w .in-Some-read .is) (w .places-of .ensures))
+      | in-rest-read w ↦
+          w .best-is ∙
+          leading-none k row (c .args .setup .n) (c .loop-j .j) (c .heard-at .result) (c .loop-j .best)
+          (c .loop-j .inv) (c .heard-at .ensures) (sym (c .read .ensures) ∙ w .in-rest-read .is)
+    ]
+
+pub returns : need.returns
+returns g c =
+    let k = g .V·Value .kind in
+    let row = view (c .args .setup) (c .args .said) (c .args .row .now) in
+    let e : c .loop-j .j ≡ c .args .setup .n = omega arith in
+    leader-is k (g .V·Value·met .lawful) row (c .args .setup .n) (c .loop-j .best)
+    (c .loop-j .inv ∙ ap (leading k row (c .args .setup .n)) e)

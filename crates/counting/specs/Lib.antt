@@ -1,0 +1,4 @@
+pub mod Leader
+pub mod Majority
+pub mod Counting
+pub mod QuorumRule
