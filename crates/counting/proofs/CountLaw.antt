@@ -3,21 +3,20 @@ use mathlib.Core.Path.{_≡_, refl, sym, _∙_, ap, subst⁻¹}
 use mathlib.Core.Bool.{Bool, true, false, cond}
 use mathlib.Core.Logic.{_⊎_, inl, inr, ⊎-elim}
 use mathlib.Core.List.{List}
-use Prim.Native.Nat.{ℕ, suc, zero, _+_, _-_, _*_, _≤_, _<_}
+use Prim.Native.Nat.{ℕ, suc, zero, _-_, _≤_, _<_}
 use native.Mathlib.Omega.{arith}
 use lib.Dec.{leb}
-use Rattle.std.proofs.shelf.Tests.{cases-eq, leb-true, leb-false, le-leb, lt-leb}
+use Rattle.std.proofs.shelf.Tests.{cases-eq, leb-true, le-leb, lt-leb}
 use Rattle.std.specs.declared.option.Option.{Option}
 use Rattle.std.specs.declared.option.Option.the-variants.{Some, None}
-use Rattle.protocol.specs.declared.refusal.Refusal.{Refusal}
 use Rattle.protocol.specs.declared.setup.Setup.{Setup}
 use Rattle.protocol.specs.Kind.{Kind, Lawful}
 use Rattle.protocol.specs.Laws.{WeakLaw}
 use Rattle.protocol.specs.Orderly.{Orderly, ReadsOnly, Still}
 use Rattle.protocol.specs.Places.{places}
-use Rattle.protocol.specs.Protocol.{Protocol, Admitted, after, refused}
-use Rattle.protocol.specs.Refusals.{unlessRefused}
-use Rattle.protocol.specs.Run.{Run, Correct, Unanimous, answered, reached, station}
+use Rattle.protocol.specs.Protocol.{Admitted, after}
+use Rattle.protocol.specs.Admission.{unlessRefused}
+use Rattle.protocol.specs.Run.{Run, Correct, Unanimous, answered, station}
 use Rattle.protocol.specs.Words.{silent, heardAt}
 use Rattle.protocol.proofs.AdmissionLaw.{not-refused}
 use Rattle.protocol.proofs.KindLaw.{word-injective}

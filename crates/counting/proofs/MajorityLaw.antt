@@ -4,7 +4,7 @@ use mathlib.Core.Logic.{inl, ⊎-elim}
 use Prim.Native.Nat.{ℕ, _+_, _-_, _*_, _≤_, _<_}
 use native.Mathlib.Omega.{arith}
 use Rattle.std.proofs.shelf.Tests.{cases-eq}
-use Rattle.std.specs.declared.option.Option.the-variants.{Some, None}
+use Rattle.std.specs.declared.option.Option.the-variants.{Some}
 use Rattle.protocol.specs.Kind.{Kind, Lawful}
 use Rattle.protocol.specs.Places.{places}
 use Rattle.protocol.proofs.KindLaw.{word-injective}

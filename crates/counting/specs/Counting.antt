@@ -9,7 +9,7 @@ use Rattle.std.specs.declared.option.Option.the-variants.{Some, None}
 use Rattle.protocol.specs.declared.setup.Setup.{Setup}
 use Rattle.protocol.specs.Kind.{Kind}
 use Rattle.protocol.specs.Protocol.{Protocol}
-use Rattle.protocol.specs.Refusals.{refusal, unlessRefused}
+use Rattle.protocol.specs.Admission.{refusal, unlessRefused}
 use Rattle.protocol.specs.Words.{silent}
 use Rattle.counting.specs.declared.count.CountState.{CountState}
 use Rattle.counting.specs.declared.count.CountState.the-variants.{Idle, Voting, Answered}

@@ -7,7 +7,7 @@ use Rattle.std.specs.declared.option.Option.the-variants.{Some, None}
 use Rattle.protocol.specs.declared.setup.Setup.{Setup}
 use Rattle.protocol.specs.Kind.{Kind}
 use Rattle.protocol.specs.Places.{places}
-use Rattle.protocol.specs.Protocol.{Protocol, Admitted}
+use Rattle.protocol.specs.Protocol.{Admitted}
 use Rattle.counting.specs.Counting.{counting}
 use Rattle.counting.specs.Leader.{view}
 

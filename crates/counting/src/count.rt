@@ -1,6 +1,6 @@
 ghost use Rattle.counting.specs.Counting.{counting};
 ghost use Rattle.counting.specs.QuorumRule.{QuorumRule};
-use crate::leaf::leader;
+use crate::tally::leader;
 use protocol::Machine;
 use protocol::SILENT;
 use protocol::Setup;

@@ -1,11 +1,16 @@
--- A setup within the protocol's limits is not refused.
-use mathlib.Core.Path.{_≡_}
+-- A setup is refused by the lowest number that applies, and not at all within the limits.
+use mathlib.Core.Path.{_≡_, refl}
 use Prim.Native.Nat.{ℕ, _*_}
 use lib.Dec.{leb, ltb}
 use Rattle.std.proofs.shelf.Tests.{or-from, le-ltb, lt-leb}
 use Rattle.std.specs.declared.option.Option.the-variants.{None}
 use Rattle.protocol.specs.declared.setup.Setup.{Setup}
+use Rattle.protocol.specs.Admission.{setupTests, LowestAdmission}
 use Rattle.protocol.specs.Protocol.{Protocol, Admitted, refused}
+use Rattle.protocol.proofs.RefusalLaw.{first-lowest}
+
+pub lowest-admission : LowestAdmission
+lowest-admission maxStations maxFaulty rounds s = first-lowest (setupTests maxStations maxFaulty rounds s) refl
 
 pub not-refused : {V A : Type 0} (P : Protocol V A) (s : Setup) → Admitted P s → refused P s ≡ None
 not-refused P s a =

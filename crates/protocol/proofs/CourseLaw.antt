@@ -9,7 +9,7 @@ use Rattle.std.proofs.shelf.Counted.{getD-map-counting}
 use Rattle.protocol.specs.Words.{silent}
 use Rattle.protocol.specs.Places.{count}
 use Rattle.protocol.specs.Protocol.{Protocol, Takes}
-use Rattle.protocol.specs.Run.{Run, stateAt}
+use Rattle.protocol.specs.Run.{stateAt}
 use Rattle.protocol.specs.Course.{rowOf, course, RunOf, RunsExist}
 
 module _ {V A : Type 0} (P : Protocol V A) (n t : ℕ) (correct : ℕ → Bool) (entry : ℕ → V)

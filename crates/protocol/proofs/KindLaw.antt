@@ -2,7 +2,6 @@
 use mathlib.Core.Path.{_≡_, ap}
 use Prim.Native.Nat.{ℕ}
 use native.Mathlib.Omega.{arith}
-use Rattle.std.specs.declared.option.Option.the-variants.{Some}
 use Rattle.protocol.specs.Words.{silent}
 use Rattle.protocol.specs.Kind.{Kind, Lawful}
 

@@ -2,6 +2,7 @@ pub mod Words
 pub mod Places
 pub mod Kind
 pub mod Refusals
+pub mod Admission
 pub mod Protocol
 pub mod Orderly
 pub mod Run

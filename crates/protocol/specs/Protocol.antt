@@ -4,7 +4,7 @@ use Prim.Native.Nat.{ℕ, suc, zero, _≤_, _<_, _*_}
 use Rattle.std.specs.declared.option.Option.{Option}
 use Rattle.protocol.specs.declared.refusal.Refusal.{Refusal}
 use Rattle.protocol.specs.declared.setup.Setup.{Setup}
-use Rattle.protocol.specs.Refusals.{refusal}
+use Rattle.protocol.specs.Admission.{refusal}
 
 -- V: what a station enters; A: what it answers
 pub record Protocol (V A : Type 0) : Type 1 where

@@ -17,6 +17,7 @@ pub use refusal::RefusalEq;
 pub use refusal::RefusalPartialEq;
 pub use runs::runs_exist;
 pub use setup::Setup;
+pub use setup::lowest_admission;
 pub use value::Value;
 pub use word::SILENT;
 pub use word::heard_at;

@@ -1,5 +1,5 @@
 ghost use mathlib.Core.Path.{_≡_};
-ghost use Rattle.protocol.specs.Refusals.{refusal};
+ghost use Rattle.protocol.specs.Admission.{refusal, LowestAdmission};
 use crate::refusal::Refusal;
 
 /// What a station knows of a vote before it begins.
@@ -31,3 +31,8 @@ impl Setup {
         }
     }
 }
+
+/// A setup is refused exactly if some refusal applies to it, and by the one with the lowest number.
+pub fn lowest_admission()
+    ensures { λ _. ⌜ LowestAdmission ⌝ }
+{}

@@ -72,16 +72,9 @@ pub impl Value for Point as PointValue {
     }
 
     fn less(self, other: Point) -> bool {
-        if self.load() != other.load() {
-            return self.load() < other.load();
-        }
-        if self.pressure != other.pressure {
-            return self.pressure < other.pressure;
-        }
-        if self.size() != other.size() {
-            return self.size() < other.size();
-        }
-        self.speed < 0 && other.speed >= 0
+        // at equal sizes the smaller speed is the negative one
+        (self.load(), self.pressure, self.size(), self.speed)
+            < (other.load(), other.pressure, other.size(), other.speed)
     }
 
     fn rest() -> Point {

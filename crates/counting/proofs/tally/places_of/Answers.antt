@@ -1,15 +1,12 @@
 use mathlib.Core.Path.{_≡_, sym, _∙_, ap}
-use Prim.Native.Nat.{_+_, _≤_, _<_}
 use native.Mathlib.Omega.{arith}
-use lib.ListN.{length}
 use Rattle.protocol.specs.Places.{places}
-use Rattle.protocol.specs.Words.{silent}
 use Rattle.protocol.proofs.KindLaw.{silent-word}
 use Rattle.protocol.proofs.RowLaw.{heard-own}
 use Rattle.counting.specs.Leader.{view}
 use Rattle.counting.proofs.PassLaw.{place-matches, place-differs, read-front, own-past-end, none-past-end}
-use Rattle.counting.proofs.leaf.places_of.Needs as need
-use Rattle.counting.proofs.leaf.places_of.Needs.{then-j-setup, else-j-setup, then-w-word, else-w-word, else-heard-setup·by·then-heard-setup·then-setup·else-said-word, else-heard-setup·by·then-heard-setup·else-setup, else-heard-setup·by·else-heard-setup}
+use Rattle.counting.proofs.tally.places_of.Needs as need
+use Rattle.counting.proofs.tally.places_of.Needs.{then-j-setup, else-j-setup, then-w-word, else-w-word, else-heard-setup·by·then-heard-setup·then-setup·else-said-word, else-heard-setup·by·then-heard-setup·else-setup, else-heard-setup·by·else-heard-setup}
 
 pub loop-j-again : need.loop-j-again
 loop-j-again g c =

@@ -3,8 +3,8 @@ use native.Mathlib.Omega.{arith}
 use Rattle.counting.specs.Leader.{view, leading}
 use Rattle.counting.proofs.LeaderLaw.{leading-some, leading-none, leader-is}
 use Rattle.counting.proofs.MajorityLaw.{majority-is-leader}
-use Rattle.counting.proofs.leaf.leader.Needs as need
-use Rattle.counting.proofs.leaf.leader.Needs.{in-Some-read, in-rest-read}
+use Rattle.counting.proofs.tally.leader.Needs as need
+use Rattle.counting.proofs.tally.leader.Needs.{in-Some-read, in-rest-read}
 
 pub returns-in-Some : need.returns-in-Some
 returns-in-Some g c =

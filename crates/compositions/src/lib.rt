@@ -1,0 +1,8 @@
+//! Votes put together with kinds of value: their worked cases and tests of whole runs.
+
+ghost use Rattle.compositions.specs.Worked.{Worked};
+
+/// The worked cases hold of the definitions.
+pub fn worked_cases()
+    ensures { λ _. ⌜ Worked ⌝ }
+{}
