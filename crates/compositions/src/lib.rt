@@ -6,3 +6,6 @@ ghost use Rattle.compositions.specs.Worked.{Worked};
 pub fn worked_cases()
     ensures { λ _. ⌜ Worked ⌝ }
 {}
+
+#[cfg(test)]
+mod tests;

@@ -45,6 +45,7 @@ module _ {V A : Type 0} (P : Protocol V A) (n t : ℕ) (correct : ℕ → Bool) 
     same-entry = refl;
     same-forged = λ k i j l e.
         at-place k i j l ∙ ap (λ x. cond x (P .said (course P n t correct entry forged k j)) (forged k i j)) e;
+    same-states = course-after;
   }
 
 pub runs-exist : {V A : Type 0} (P : Protocol V A) → RunsExist P

@@ -8,7 +8,7 @@ use Rattle.std.specs.Iters.{counting}
 use Rattle.protocol.specs.Words.{silent}
 use Rattle.protocol.specs.Places.{count}
 use Rattle.protocol.specs.Protocol.{Protocol, Takes}
-use Rattle.protocol.specs.Run.{Run, station}
+use Rattle.protocol.specs.Run.{Run, station, reached}
 
 -- the row that a listener hears in a round where the stations are in these states;
 -- `forged` is what it finds there at a faulty sender's place
@@ -24,14 +24,16 @@ course P n t correct entry forged (suc k) i =
     let states = course P n t correct entry forged k in
     P .heard (states i) (rowOf P n correct forged states k i)
 
--- there is a run with these correct stations and entries, in which the faulty stations send these words
+-- a run with these correct stations and entries, in which the faulty stations send these words: the course itself
 pub record RunOf {V A : Type 0} (P : Protocol V A) (n t : ℕ) (correct : ℕ → Bool) (entry : ℕ → V)
     (forged : (round listener sender : ℕ) → ℕ) : Type 0 where
   pub run : Run P n t
   pub same-correct : run .correct ≡ correct
   pub same-entry : run .entry ≡ entry
   pub same-forged : (k i j : ℕ) → j < n → correct j ≡ false → getD (run .rows i k) j silent ≡ forged k i j
+  pub same-states : (i k : ℕ) → reached run i k ≡ course P n t correct entry forged k i
 
+-- whoever is correct, whatever they enter and whatever the faulty stations send: there is such a run
 abbrev pub RunsExist : {V A : Type 0} → Protocol V A → Type 0
 RunsExist {V} P =
     (n t : ℕ) (correct : ℕ → Bool) (entry : ℕ → V) (forged : (round listener sender : ℕ) → ℕ) →

@@ -1,0 +1,3 @@
+mod machines;
+mod rows;
+mod runs;
