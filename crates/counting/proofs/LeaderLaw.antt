@@ -14,7 +14,7 @@ use Rattle.protocol.specs.Kind.{Kind, Lawful}
 use Rattle.protocol.specs.Places.{places}
 use Rattle.protocol.proofs.KindLaw.{word-injective}
 use Rattle.protocol.proofs.PlacesLaw.{place-of, place-counts, places-same}
-use Rattle.counting.specs.Leader.{beaten, ahead, considered, leading, leader, Leads}
+use Rattle.counting.specs.Leader.{beaten, ahead, considered, leading, leader, Leads, LeadsAlone}
 
 -- rows that are alike at the first n places have one leader
 leading-same : {V : Type 0} (K : Kind V) (row row′ : ℕ → ℕ) (n k : ℕ) → k ≤ n →
@@ -33,20 +33,24 @@ pub leader-same : {V : Type 0} (K : Kind V) (row row′ : ℕ → ℕ) (n : ℕ)
     ((j : ℕ) → j < n → row j ≡ row′ j) → leader K row n ≡ leader K row′ n
 leader-same K row row′ n h = leading-same K row row′ n n (omega arith) h
 
--- a place that reads as a value, and one that does not
-pub leading-some : {V : Type 0} (K : Kind V) (row : ℕ → ℕ) (n j w c : ℕ) (v : V) (best : V × ℕ) →
-    best ≡ leading K row n j → w ≡ row j → K .reads w ≡ Some v → c ≡ places row (K .word v) n →
-    ahead K best (v, c) ≡ leading K row n (j + 1)
-leading-some K row n j w c v best e f r h =
-    ap (λ b. ahead K b (v, c)) e ∙
+-- one place more: it reads as a value, or as none
+pub leading-some : {V : Type 0} (K : Kind V) (row : ℕ → ℕ) (n j w c : ℕ) (o : Option V) (v : V)
+    (best taken next : V × ℕ) → next ≡ taken → taken ≡ ahead K best (v, c) → best ≡ leading K row n j → w ≡ row j →
+    o ≡ K .reads w → o ≡ Some v → c ≡ places row (K .word v) n → next ≡ leading K row n (j + 1)
+leading-some K row n j w c o v best taken next p q e f r s h =
+    p ∙
+    (q ∙
+    (ap (λ b. ahead K b (v, c)) e ∙
     (ap (λ x. ahead K (leading K row n j) (v, x)) h ∙
-    (ap (considered K row n (leading K row n j)) (sym r ∙ ap (K .reads) f) ∙ ap (leading K row n) (sym (add-one j))))
+    (ap (considered K row n (leading K row n j)) (sym s ∙ (r ∙ ap (K .reads) f)) ∙ ap (leading K row n) (sym (add-one j))))))
 
-pub leading-none : {V : Type 0} (K : Kind V) (row : ℕ → ℕ) (n j w : ℕ) (best : V × ℕ) →
-    best ≡ leading K row n j → w ≡ row j → K .reads w ≡ None → best ≡ leading K row n (j + 1)
-leading-none K row n j w best e f r =
-    e ∙
-    (ap (considered K row n (leading K row n j)) (sym r ∙ ap (K .reads) f) ∙ ap (leading K row n) (sym (add-one j)))
+pub leading-none : {V : Type 0} (K : Kind V) (row : ℕ → ℕ) (n j w : ℕ) (o : Option V) (best next : V × ℕ) →
+    next ≡ best → best ≡ leading K row n j → w ≡ row j → o ≡ K .reads w → o ≡ None →
+    next ≡ leading K row n (j + 1)
+leading-none K row n j w o best next p e f r s =
+    p ∙
+    (e ∙
+    (ap (considered K row n (leading K row n j)) (sym s ∙ (r ∙ ap (K .reads) f)) ∙ ap (leading K row n) (sym (add-one j))))
 
 -- a larger number, or an equal one and a test that carries over
 carries-over : (x y z : ℕ) (p q r : Bool) → (q ≡ true → p ≡ true → r ≡ true) →
@@ -198,10 +202,10 @@ module _ {V : Type 0} (K : Kind V) (lawful : Lawful K) where
         record {
           value : best ≡ leader K row n;
           leads : Leads K row n best;
-          only : (b : V × ℕ) → Leads K row n b → b ≡ best;
+          alone : LeadsAlone K row n best;
         }
     leader-is best e = record {
       value = e;
       leads = subst⁻¹ (Leads K row n) e leader-leads;
-      only = λ b h. leads-only b (leader K row n) h leader-leads ∙ sym e;
+      alone = λ b h. leads-only b (leader K row n) h leader-leads ∙ sym e;
     }

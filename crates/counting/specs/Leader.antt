@@ -46,3 +46,7 @@ pub record Leads {V : Type 0} (K : Kind V) (row : ℕ → ℕ) (n : ℕ) (best :
   pub least : (v : V) → places row (K .word v) n ≡ best .1 → (v ≡ best .0) ⊎ (K .less (best .0) v ≡ true)
   -- rest with 0 if no place reads as a value
   pub none : ((j : ℕ) → j < n → K .reads (row j) ≡ None) → best ≡ (K .rest, 0)
+
+-- nothing else leads
+abbrev pub LeadsAlone : {V : Type 0} (K : Kind V) (row : ℕ → ℕ) (n : ℕ) (best : V × ℕ) → Type 0
+LeadsAlone {V} K row n best = (other : V × ℕ) → Leads K row n other → other ≡ best

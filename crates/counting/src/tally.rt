@@ -1,8 +1,7 @@
 ghost use mathlib.Core.Path.{_≡_};
-ghost use Prim.Native.Nat.{ℕ};
 ghost use lib.ListN.{take};
 ghost use Rattle.protocol.specs.Places.{places};
-ghost use Rattle.counting.specs.Leader.{view, ahead, leader, Leads};
+ghost use Rattle.counting.specs.Leader.{view, ahead, leader, Leads, LeadsAlone};
 ghost use Rattle.counting.specs.Majority.{OnlyCandidate, Majority};
 use protocol::SILENT;
 use protocol::Setup;
@@ -13,7 +12,7 @@ use protocol::heard_at;
 pub fn leader<V: Value>(setup: Setup, said: u64, row: &[u64]) -> (V, usize)
     ensures value { λ r. ⌜ r ≡ leader (V·Value .kind) (view setup said (now (row .entry))) (setup .n) ⌝ }
     ensures leads { λ r. ⌜ Leads (V·Value .kind) (view setup said (now (row .entry))) (setup .n) r ⌝ }
-    ensures only { λ r. ⌜ ((b : V × ℕ) → Leads (V·Value .kind) (view setup said (now (row .entry))) (setup .n) b → b ≡ r) ⌝ }
+    ensures alone { λ r. ⌜ LeadsAlone (V·Value .kind) (view setup said (now (row .entry))) (setup .n) r ⌝ }
 {
     // a majority leads, and two passes over the row find it
     if let Some(best) = majority::<V>(setup, said, row) {

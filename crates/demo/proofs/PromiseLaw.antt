@@ -1,12 +1,11 @@
 -- The vote of the program keeps the weak law.
 use mathlib.Core.Path.{_≡_, refl, sym, _∙_, ap}
-use mathlib.Core.Bool.{Bool, true, not}
 use mathlib.Core.List.{List, [], _∷_}
 use mathlib.Core.Logic.{_⊎_, inl, inr, ⊎-elim}
 use Prim.Native.Nat.{ℕ, suc, zero, _+_, _<_}
 use native.Mathlib.Numerals.{add-one}
 use native.Mathlib.Omega.{arith}
-use lib.Dec.{lit≤, lit<}
+use lib.Dec.{lit≤}
 use lib.ListN.{getD}
 use Rattle.std.proofs.shelf.Tests.{lt-ltb, ltb-true}
 use Rattle.std.specs.declared.option.Option.{Option}
@@ -51,7 +50,8 @@ answer-at entries forged (suc (suc (suc i))) l = absurd (omega arith)
 
 module _ (runs : RunsExist (counting pointKind)) (law : WeakLaw (counting pointKind)) (entries : List Point)
     (forged : List ℕ) where
-  of : RunOf (counting pointKind) 4 1 correct (λ j. getD entries j restPoint) (λ round listener sender. getD forged listener 0)
+  of : RunOf (counting pointKind) 4 1 correct (λ j. getD entries j restPoint)
+      (λ round listener sender. getD forged listener 0)
   of = runs 4 1 correct _ _ takes (lit≤ tt)
 
   is-correct : (i : ℕ) → i < 3 → Correct (of .run) i

@@ -22,7 +22,8 @@ module _ (entries : List Point) (forged : List ℕ) where
   -- the state of station i after k rounds; the faulty one tells it the same word in every round
   abbrev pub stateOf : (k i : ℕ) → counting pointKind .State
   stateOf =
-      course (counting pointKind) 4 1 correct (λ j. getD entries j restPoint) (λ round listener sender. getD forged listener 0)
+      course (counting pointKind) 4 1 correct (λ j. getD entries j restPoint)
+      (λ round listener sender. getD forged listener 0)
 
   -- what it answers then
   abbrev pub answerOf : (k i : ℕ) → Option Point

@@ -1,6 +1,6 @@
 -- A setup is refused by the lowest number that applies, and not at all within the limits.
 use mathlib.Core.Path.{_≡_, refl}
-use Prim.Native.Nat.{ℕ, _*_}
+use Prim.Native.Nat.{_*_}
 use lib.Dec.{leb, ltb}
 use Rattle.std.proofs.shelf.Tests.{or-from, le-ltb, lt-leb}
 use Rattle.std.specs.declared.option.Option.the-variants.{None}

@@ -25,7 +25,8 @@ abbrev pub refusal : (maxStations maxFaulty rounds : ℕ) → Setup → Option R
 refusal maxStations maxFaulty rounds s = firstRefusal (setupTests maxStations maxFaulty rounds s)
 
 abbrev pub LowestAdmission : Type 0
-LowestAdmission = (maxStations maxFaulty rounds : ℕ) (s : Setup) → LowestRefusal (setupTests maxStations maxFaulty rounds s)
+LowestAdmission =
+    (maxStations maxFaulty rounds : ℕ) (s : Setup) → LowestRefusal (setupTests maxStations maxFaulty rounds s)
 
 -- how a vote begins: idle where the setup is refused
 abbrev pub unlessRefused : {S : Type 0} → Option Refusal → (idle begun : S) → S

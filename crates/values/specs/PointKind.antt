@@ -3,7 +3,7 @@ use mathlib.Core.Path.{_≡_, refl}
 use mathlib.Core.Bool.{Bool, true, false, cond}
 use mathlib.Core.List.{List, [], _∷_}
 use Prim.Native.Nat.{ℕ, _+_, _*_, _/_, _%_, _≤_}
-use lib.Dec.{leb, lit≤}
+use lib.Dec.{leb}
 use lib.IntN.{ℤ, pos, natAbs, _+ℤ_, _-ℤ_}
 use lib.Signed.{nonNeg}
 use Rattle.std.specs.declared.option.Option.{Option}
@@ -38,7 +38,11 @@ abbrev pub pointReads : ℕ → Option Point
 pointReads w = okPart (newPoint (w / 65536) (pos (w % 65536) -ℤ pos 6000))
 
 abbrev pub restPoint : Point
-restPoint = record { pressure = 0; speed = pos 0; limits = (lit≤ tt, lit≤ tt) }
+restPoint = record {
+  pressure = 0;
+  speed = pos 0;
+  limits = (leb-true 0 maxPressure refl, leb-true 0 maxSpeed refl);
+}
 
 -- what decides which of two points is less, the first first: the load, the pressure, the speed without its sign,
 -- and at last the sign, the negative one being less

@@ -13,3 +13,6 @@ pub use switch::SwitchDebug;
 pub use switch::SwitchEq;
 pub use switch::SwitchPartialEq;
 pub use switch::SwitchValue;
+
+#[cfg(test)]
+mod tests;

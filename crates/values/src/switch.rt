@@ -31,6 +31,6 @@ pub impl Value for Switch as SwitchValue {
     }
 
     fn rest() -> Switch {
-        Switch::Hold
+        Self::Hold
     }
 }

@@ -1,6 +1,8 @@
 ghost use mathlib.Core.Path.{_≡_};
 ghost use Prim.Native.Nat.{_*_};
 ghost use lib.IntN.{natAbs};
+ghost use Rattle.std.specs.declared.result.Result.the-variants.{Ok};
+ghost use Rattle.values.specs.Limits.{Limits};
 ghost use Rattle.values.specs.PointKind.{pointKind, newPoint};
 use crate::point::Point;
 use protocol::Refusal;
@@ -17,10 +19,7 @@ impl Point {
         if speed < -6000 || speed > 6000 {
             return Err(Refusal::Speed);
         }
-        Ok(Point {
-            pressure: pressure as u16,
-            speed: speed as i16,
-        })
+        Ok(Point::within(pressure as u16, speed as i16))
     }
 
     /// The pressure in tenths of a bar.
@@ -37,18 +36,26 @@ impl Point {
         self.speed
     }
 
+    // The point of numbers that are known to lie within the limits.
+    fn within(pressure: u16, speed: i16) -> Point
+        requires { ⌜ Limits pressure speed ⌝ }
+        ensures { λ r. ⌜ newPoint pressure speed ≡ Ok r ⌝ }
+    {
+        Point { pressure, speed }
+    }
+
     // The speed without its sign.
     fn size(self) -> u16
         ensures { λ r. ⌜ r ≡ natAbs (self .speed) ⌝ }
     {
-        self.speed.unsigned_abs()
+        i16::unsigned_abs(self.speed)
     }
 
     // The pressure times the speed without its sign.
     fn load(self) -> u32
         ensures { λ r. ⌜ r ≡ self .pressure * natAbs (self .speed) ⌝ }
     {
-        self.pressure as u32 * self.size() as u32
+        u32::from(self.pressure) * u32::from(self.size())
     }
 }
 
@@ -56,7 +63,7 @@ pub impl Value for Point as PointValue {
     ghost kind = { pointKind };
 
     fn word(self) -> u64 {
-        self.pressure as u64 * 65536 + (self.speed as i32 + 6000) as u64
+        u64::from(self.pressure) * 65536 + (self.speed as i32 + 6000) as u64
     }
 
     fn read(word: u64) -> Option<Point> {
@@ -65,10 +72,7 @@ pub impl Value for Point as PointValue {
         if pressure > 7000 || offset > 12000 {
             return None;
         }
-        Some(Point {
-            pressure: pressure as u16,
-            speed: offset as i16 - 6000,
-        })
+        Some(Point::within(pressure as u16, offset as i16 - 6000))
     }
 
     fn less(self, other: Point) -> bool {
@@ -78,9 +82,6 @@ pub impl Value for Point as PointValue {
     }
 
     fn rest() -> Point {
-        Point {
-            pressure: 0,
-            speed: 0,
-        }
+        Point::within(0, 0)
     }
 }

@@ -1,4 +1,4 @@
-use mathlib.Core.Path.{_≡_, sym, _∙_, ap}
+use mathlib.Core.Path.{_≡_, _∙_, ap}
 use native.Mathlib.Omega.{arith}
 use Rattle.counting.specs.Leader.{view, leading}
 use Rattle.counting.proofs.LeaderLaw.{leading-some, leading-none, leader-is}
@@ -21,15 +21,14 @@ loop-j-again g c =
     let row = view (c .args .setup) (c .args .said) (c .args .row .now) in
     elim (c .match-read .came) [
       | in-Some-read w ↦
-          w .best-is ∙
-          (w .ahead-best .ensures ∙
           leading-some k row (c .args .setup .n) (c .loop-j .j) (c .heard-at .result) (w .places-of .result)
-          (w .in-Some-read .v) (c .loop-j .best) (c .loop-j .inv) (c .heard-at .ensures)
-          (sym (c .read .ensures) ∙ w .in-Some-read .is) (w .places-of .ensures))
+          (c .read .result) (w .in-Some-read .v) (c .loop-j .best) (w .ahead-best .result) (c .match-read .best)
+          (w .best-is) (w .ahead-best .ensures) (c .loop-j .inv) (c .heard-at .ensures)
+          (c .read .ensures) (w .in-Some-read .is) (w .places-of .ensures)
       | in-rest-read w ↦
-          w .best-is ∙
-          leading-none k row (c .args .setup .n) (c .loop-j .j) (c .heard-at .result) (c .loop-j .best)
-          (c .loop-j .inv) (c .heard-at .ensures) (sym (c .read .ensures) ∙ w .in-rest-read .is)
+          leading-none k row (c .args .setup .n) (c .loop-j .j) (c .heard-at .result) (c .read .result)
+          (c .loop-j .best) (c .match-read .best) (w .best-is) (c .loop-j .inv) (c .heard-at .ensures)
+          (c .read .ensures) (w .in-rest-read .is)
     ]
 
 pub returns : need.returns

@@ -1,4 +1,4 @@
-use mathlib.Core.Path.{_≡_, _∙_, ap, sym, subst⁻¹}
+use mathlib.Core.Path.{_≡_, _∙_, ap, subst⁻¹}
 use mathlib.Core.List.{[], _∷_}
 use native.Mathlib.Omega.{arith}
 use Rattle.std.specs.Options.{flattened}
@@ -34,5 +34,6 @@ returns c =
     (λ i. p i ∷ (q i ∷ (r i ∷ []))) ∙ ap (λ k. answersAfter entries forged k) last in
     record {
       answers = all;
-      promise = subst⁻¹ (Promise entries) all (keeps-promise (c .runs-exist .ensures) (c .weak-law .ensures) entries forged);
+      promise = subst⁻¹ (Promise entries) all
+          (keeps-promise (c .runs-exist .ensures) (c .weak-law .ensures) entries forged);
     }

@@ -1,8 +1,0 @@
-use mathlib.Core.Path.{refl}
-use native.Mathlib.Omega.{arith}
-use Rattle.std.proofs.shelf.Signed.{ints}
-use Rattle.values.proofs.PointLaw.{new-point}
-use Rattle.values.proofs.point.Point.new.Needs as need
-
-pub returns : need.returns
-returns c = new-point (c .args .pressure) (c .args .speed) _ refl (omega (arith, ints))
