@@ -34,23 +34,25 @@ pub leader-same : {V : Type 0} (K : Kind V) (row row′ : ℕ → ℕ) (n : ℕ)
 leader-same K row row′ n h = leading-same K row row′ n n (omega arith) h
 
 -- one place more: it reads as a value, or as none
+leading-next : {V : Type 0} (K : Kind V) (row : ℕ → ℕ) (n j w : ℕ) (o : Option V) → w ≡ row j → o ≡ K .reads w →
+    considered K row n (leading K row n j) o ≡ leading K row n (j + 1)
+leading-next K row n j w o f r =
+    ap (considered K row n (leading K row n j)) (r ∙ ap (K .reads) f) ∙ ap (leading K row n) (sym (add-one j))
+
 pub leading-some : {V : Type 0} (K : Kind V) (row : ℕ → ℕ) (n j w c : ℕ) (o : Option V) (v : V)
     (best taken next : V × ℕ) → next ≡ taken → taken ≡ ahead K best (v, c) → best ≡ leading K row n j → w ≡ row j →
     o ≡ K .reads w → o ≡ Some v → c ≡ places row (K .word v) n → next ≡ leading K row n (j + 1)
 leading-some K row n j w c o v best taken next p q e f r s h =
     p ∙
     (q ∙
-    (ap (λ b. ahead K b (v, c)) e ∙
-    (ap (λ x. ahead K (leading K row n j) (v, x)) h ∙
-    (ap (considered K row n (leading K row n j)) (sym s ∙ (r ∙ ap (K .reads) f)) ∙ ap (leading K row n) (sym (add-one j))))))
+    ((λ i. ahead K (e i) (v, h i)) ∙
+    (ap (considered K row n (leading K row n j)) (sym s) ∙ leading-next K row n j w o f r)))
 
 pub leading-none : {V : Type 0} (K : Kind V) (row : ℕ → ℕ) (n j w : ℕ) (o : Option V) (best next : V × ℕ) →
     next ≡ best → best ≡ leading K row n j → w ≡ row j → o ≡ K .reads w → o ≡ None →
     next ≡ leading K row n (j + 1)
 leading-none K row n j w o best next p e f r s =
-    p ∙
-    (e ∙
-    (ap (considered K row n (leading K row n j)) (sym s ∙ (r ∙ ap (K .reads) f)) ∙ ap (leading K row n) (sym (add-one j))))
+    p ∙ (e ∙ (ap (considered K row n (leading K row n j)) (sym s) ∙ leading-next K row n j w o f r))
 
 -- a larger number, or an equal one and a test that carries over
 carries-over : (x y z : ℕ) (p q r : Bool) → (q ≡ true → p ≡ true → r ≡ true) →
@@ -209,3 +211,7 @@ module _ {V : Type 0} (K : Kind V) (lawful : Lawful K) where
       leads = subst⁻¹ (Leads K row n) e leader-leads;
       alone = λ b h. leads-only b (leader K row n) h leader-leads ∙ sym e;
     }
+
+    -- a loop over all places ends with it
+    pub leader-after : (j : ℕ) (best : V × ℕ) → best ≡ leading K row n j → j ≡ n → best ≡ leader K row n
+    leader-after j best e end = e ∙ ap (leading K row n) end

@@ -2,12 +2,12 @@
 use mathlib.Core.Path.{_≡_, refl}
 use Prim.Native.Nat.{_*_}
 use lib.Dec.{leb, ltb}
-use Rattle.std.proofs.shelf.Tests.{or-from, le-ltb, lt-leb}
+use Rattle.std.proofs.shelf.Tests.{or-from, or-parts, le-ltb, lt-leb, ltb-false, leb-false}
 use Rattle.std.specs.declared.option.Option.the-variants.{None}
 use Rattle.protocol.specs.declared.setup.Setup.{Setup}
 use Rattle.protocol.specs.Admission.{setupTests, LowestAdmission}
-use Rattle.protocol.specs.Protocol.{Protocol, Admitted, refused}
-use Rattle.protocol.proofs.RefusalLaw.{first-lowest}
+use Rattle.protocol.specs.Protocol.{Protocol, Admitted, ExactAdmission, refused}
+use Rattle.protocol.proofs.RefusalLaw.{first-lowest, none-applies}
 
 pub lowest-admission : LowestAdmission
 lowest-admission maxStations maxFaulty rounds s = first-lowest (setupTests maxStations maxFaulty rounds s) refl
@@ -23,3 +23,22 @@ not-refused P s a =
       lt-leb (s .n) (s .own) (a .own-number),
       le-ltb 65535 (P .rounds (s .n) (s .t)) (h .in-time),
     )
+
+taken : {V A : Type 0} (P : Protocol V A) (s : Setup) → refused P s ≡ None → Admitted P s
+taken P s e =
+    let h = none-applies (setupTests (P .maxStations) (P .maxFaulty) (P .rounds (s .n) (s .t)) s) e in
+    let n = or-parts (ltb (s .n) 2) (ltb (P .maxStations) (s .n)) (h .0) in
+    let t = or-parts (ltb (P .maxFaulty) (s .t)) (leb (s .n) (3 * s .t)) (h .1 .0) in
+    record {
+      takes = record {
+        two-stations = ltb-false (s .n) 2 (n .0);
+        max-stations = ltb-false (P .maxStations) (s .n) (n .1);
+        max-faulty = ltb-false (P .maxFaulty) (s .t) (t .0);
+        third = leb-false (s .n) (3 * s .t) (t .1);
+        in-time = ltb-false 65535 (P .rounds (s .n) (s .t)) (h .1 .1 .1 .0);
+      };
+      own-number = leb-false (s .n) (s .own) (h .1 .1 .0);
+    }
+
+pub exact-admission : {V A : Type 0} (P : Protocol V A) → ExactAdmission P
+exact-admission P = record { taken = taken P; not-refused = not-refused P }

@@ -7,7 +7,7 @@ use Prim.Native.Nat.{ℕ, _≤_}
 use native.Mathlib.Omega.{arith}
 use lib.Dec.{leb}
 use Rattle.std.proofs.shelf.Tests.{and-parts, leb-true, both-ways, cases-bool}
-use Rattle.std.specs.declared.option.Option.the-variants.{Some}
+use Rattle.std.specs.declared.option.Option.the-variants.{Some, None}
 use Rattle.protocol.specs.declared.refusal.Refusal.{Refusal}
 use Rattle.protocol.specs.Refusals.{number, Tests, firstRefusal, Applies, LowestRefusal}
 
@@ -66,3 +66,17 @@ first-lowest [] up = record {
 first-lowest (x ∷ xs) up =
     let p = and-parts (allFrom (number (x .1)) xs) (ascending xs) up in
     ⊎-elim (λ e. here x xs e (p .0)) (λ e. later x xs e (first-lowest xs (p .1))) (cases-bool (x .0))
+
+-- all tests say no
+abbrev pub AllNo : Tests → Type 0
+AllNo [] = Unit {0}
+AllNo (x ∷ xs) = (x .0 ≡ false) × AllNo xs
+
+pub none-applies : (xs : Tests) → firstRefusal xs ≡ None → AllNo xs
+none-applies [] e = tt
+none-applies (x ∷ xs) e = ⊎-elim
+    (λ t.
+    let g : firstRefusal (x ∷ xs) ≡ Some (x .1) = ap (λ b. cond b (Some (x .1)) (firstRefusal xs)) t in
+    let z : _≡_ {A = ℕ} 0 1 = cc in absurd (omega arith))
+    (λ t. (t, none-applies xs (sym (ap (λ b. cond b (Some (x .1)) (firstRefusal xs)) t) ∙ e)))
+    (cases-bool (x .0))

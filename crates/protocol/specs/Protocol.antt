@@ -1,7 +1,9 @@
 -- A voting protocol by its meaning: states, and what is said, heard and answered in them.
+use mathlib.Core.Path.{_≡_}
 use mathlib.Core.List.{List}
 use Prim.Native.Nat.{ℕ, suc, zero, _≤_, _<_, _*_}
 use Rattle.std.specs.declared.option.Option.{Option}
+use Rattle.std.specs.declared.option.Option.the-variants.{None}
 use Rattle.protocol.specs.declared.refusal.Refusal.{Refusal}
 use Rattle.protocol.specs.declared.setup.Setup.{Setup}
 use Rattle.protocol.specs.Admission.{refusal}
@@ -40,3 +42,8 @@ pub record Takes {V A : Type 0} (P : Protocol V A) (n t : ℕ) : Type 0 where
 pub record Admitted {V A : Type 0} (P : Protocol V A) (s : Setup) : Type 0 where
   pub takes : Takes P (s .n) (s .t)
   pub own-number : s .own < s .n
+
+-- a setup is not refused exactly if the protocol takes it
+pub record ExactAdmission {V A : Type 0} (P : Protocol V A) : Type 0 where
+  pub taken : (s : Setup) → refused P s ≡ None → Admitted P s
+  pub not-refused : (s : Setup) → Admitted P s → refused P s ≡ None

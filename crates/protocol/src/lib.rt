@@ -1,5 +1,6 @@
 //! What every vote is held against: words and rows, kinds of value, refusals, voting machines, runs and the laws.
 
+mod admission;
 mod machine;
 mod refusal;
 mod runs;
@@ -7,6 +8,8 @@ mod setup;
 mod value;
 mod word;
 
+pub use admission::exact_admission;
+pub use admission::lowest_admission;
 pub use machine::FullVote;
 pub use machine::GradedVote;
 pub use machine::Machine;
@@ -17,7 +20,6 @@ pub use refusal::RefusalEq;
 pub use refusal::RefusalPartialEq;
 pub use runs::runs_exist;
 pub use setup::Setup;
-pub use setup::lowest_admission;
 pub use value::Value;
 pub use word::SILENT;
 pub use word::heard_at;

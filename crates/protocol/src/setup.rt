@@ -1,5 +1,5 @@
 ghost use mathlib.Core.Path.{_≡_};
-ghost use Rattle.protocol.specs.Admission.{refusal, LowestAdmission};
+ghost use Rattle.protocol.specs.Admission.{refusal};
 use crate::refusal::Refusal;
 
 /// What a station knows of a vote before it begins.
@@ -31,8 +31,3 @@ impl Setup {
         }
     }
 }
-
-/// A setup is refused exactly if some refusal applies to it, and by the one with the lowest number.
-pub fn lowest_admission()
-    ensures { λ _. ⌜ LowestAdmission ⌝ }
-{}

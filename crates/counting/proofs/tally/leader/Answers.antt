@@ -1,7 +1,6 @@
-use mathlib.Core.Path.{_≡_, _∙_, ap}
 use native.Mathlib.Omega.{arith}
-use Rattle.counting.specs.Leader.{view, leading}
-use Rattle.counting.proofs.LeaderLaw.{leading-some, leading-none, leader-is}
+use Rattle.counting.specs.Leader.{view}
+use Rattle.counting.proofs.LeaderLaw.{leading-some, leading-none, leader-is, leader-after}
 use Rattle.counting.proofs.MajorityLaw.{majority-is-leader}
 use Rattle.counting.proofs.tally.leader.Needs as need
 use Rattle.counting.proofs.tally.leader.Needs.{in-Some-read, in-rest-read}
@@ -34,7 +33,7 @@ loop-j-again g c =
 pub returns : need.returns
 returns g c =
     let k = g .V·Value .kind in
+    let lawful = g .V·Value·met .lawful in
     let row = view (c .args .setup) (c .args .said) (c .args .row .now) in
-    let e : c .loop-j .j ≡ c .args .setup .n = omega arith in
-    leader-is k (g .V·Value·met .lawful) row (c .args .setup .n) (c .loop-j .best)
-    (c .loop-j .inv ∙ ap (leading k row (c .args .setup .n)) e)
+    leader-is k lawful row (c .args .setup .n) (c .loop-j .best)
+    (leader-after k lawful row (c .args .setup .n) (c .loop-j .j) (c .loop-j .best) (c .loop-j .inv) (omega arith))
