@@ -2,10 +2,11 @@
 
 ghost use Rattle.compositions.specs.Worked.{Worked};
 
+mod machines;
+mod rows;
+mod runs;
+
 /// The worked cases hold of the definitions.
 pub fn worked_cases()
     ensures { λ _. ⌜ Worked ⌝ }
 {}
-
-#[cfg(test)]
-mod tests;

@@ -12,6 +12,9 @@ use Rattle.protocol.specs.Places.{places}
 use Rattle.protocol.specs.Words.{heardAt}
 use Rattle.protocol.specs.declared.setup.Setup.{Setup}
 
+-- By the laws of a kind a place reads as v exactly if it holds the word of v, so `places row (K .word v) n` is how many
+-- places read as v.
+
 -- a row as the station, which said `said`, reads it
 abbrev pub view : Setup → (said : ℕ) → List ℕ → ℕ → ℕ
 view s said row = heardAt (s .own) said row

@@ -13,6 +13,3 @@ pub use switch::SwitchDebug;
 pub use switch::SwitchEq;
 pub use switch::SwitchPartialEq;
 pub use switch::SwitchValue;
-
-#[cfg(test)]
-mod tests;

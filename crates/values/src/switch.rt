@@ -34,3 +34,20 @@ pub impl Value for Switch as SwitchValue {
         Self::Hold
     }
 }
+
+#[cfg(test)]
+mod tests {
+    use super::*;
+    use protocol::SILENT;
+    use std::test::*;
+
+    #[test]
+    fn hold_and_go() -> Result<(), Fail> {
+        check_eq(Switch::rest(), Switch::Hold)?;
+        check(Switch::Hold.less(Switch::Go))?;
+        check(!Switch::Go.less(Switch::Hold))?;
+        check_eq(Switch::read(Switch::Go.word()), Some(Switch::Go))?;
+        check_eq(Switch::read(2), None)?;
+        check_eq(Switch::read(SILENT), None)
+    }
+}

@@ -1,3 +1,0 @@
-mod machines;
-mod rows;
-mod runs;
