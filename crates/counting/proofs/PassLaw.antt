@@ -30,6 +30,12 @@ rest-differs row w m (suc n) l d = ⊎-elim
     rw (ne-eqb (row n) w (d n h (omega arith))) (omega arith))
     (cases-eq m (suc n))
 
+-- a count of the word w in `heard`, compared as `word`, and what it says of all n places: one more where the own place
+-- lies past the end
+pub record Ends (own said : ℕ) (row heard : List ℕ) (n w word count : ℕ) : Type 0 where
+  pub own-past : length heard ≤ own → own < n → said ≡ word → count + 1 ≡ places (heardAt own said row) w n
+  pub none-past : (length heard ≤ own → own < n → said ≡ word → ⊥) → count ≡ places (heardAt own said row) w n
+
 -- `heard` is the part of the row that is read
 module _ (own said : ℕ) (row heard : List ℕ) (n : ℕ) (front : heard ≡ take n row) where
   shorter : length heard ≡ min n (length row)
@@ -50,22 +56,30 @@ module _ (own said : ℕ) (row heard : List ℕ) (n : ℕ) (front : heard ≡ ta
         let h = shorter in
         loud (sym e ∙ (heard-other own said row j d ∙ List·getD-eq-default row silent (omega arith)))
 
-    pub own-past-end : (count j : ℕ) → count ≡ places (heardAt own said row) w j → j ≡ length heard →
-        length heard ≤ own → own < n → said ≡ w → count + 1 ≡ places (heardAt own said row) w n
-    own-past-end count j c end l m e =
-        let a = rest-differs (heardAt own said row) w (own + 1) n (omega arith)
-        (λ i p q. past-end i (omega arith) q (omega arith)) in
-        let b = rest-differs (heardAt own said row) w j own (omega arith)
-        (λ i p q. past-end i (omega arith) (omega arith) (omega arith)) in
-        let d = place-matches (heardAt own said row) w own (heard-own own said row own refl ∙ e) in
-        omega arith
+    pub past-end-counts : (word : ℕ) → word ≡ w → (count j : ℕ) → count ≡ places (heardAt own said row) word j →
+        j ≡ length heard → Ends own said row heard n w word count
+    past-end-counts word same count j c end = record { own-past = own-past; none-past = none-past }
+      where
+        so-far : count ≡ places (heardAt own said row) w j
+        so-far = c ∙ ap (λ x. places (heardAt own said row) x j) same
 
-    pub none-past-end : (count j : ℕ) → count ≡ places (heardAt own said row) w j → j ≡ length heard →
-        (length heard ≤ own → own < n → said ≡ w → ⊥) → count ≡ places (heardAt own said row) w n
-    none-past-end count j c end d =
-        let h = shorter in
-        c ∙ sym (rest-differs (heardAt own said row) w j n (omega arith)
-        (λ i p q e. ⊎-elim
-        (λ (o : i ≡ own). d (omega arith) (omega arith) (sym (heard-own own said row i o) ∙ e))
-        (λ o. past-end i (omega arith) q o e)
-        (cases-eq i own)))
+        own-past : length heard ≤ own → own < n → said ≡ word → count + 1 ≡ places (heardAt own said row) w n
+        own-past l m e =
+            let a = rest-differs (heardAt own said row) w (own + 1) n (omega arith)
+            (λ i p q. past-end i (omega arith) q (omega arith)) in
+            let b = rest-differs (heardAt own said row) w j own (omega arith)
+            (λ i p q. past-end i (omega arith) (omega arith) (omega arith)) in
+            let d = place-matches (heardAt own said row) w own (heard-own own said row own refl ∙ (e ∙ same)) in
+            let f = so-far in
+            omega arith
+
+        none-past : (length heard ≤ own → own < n → said ≡ word → ⊥) → count ≡ places (heardAt own said row) w n
+        none-past d =
+            let h = shorter in
+            so-far ∙
+            sym (rest-differs (heardAt own said row) w j n (omega arith)
+            (λ i p q e. ⊎-elim
+            (λ (o : i ≡ own).
+            d (omega arith) (omega arith) (sym (heard-own own said row i o) ∙ (e ∙ sym same)))
+            (λ o. past-end i (omega arith) q o e)
+            (cases-eq i own)))

@@ -1,12 +1,12 @@
-use mathlib.Core.Path.{_≡_, sym, _∙_, ap}
+use mathlib.Core.Path.{_≡_, sym, _∙_}
 use native.Mathlib.Omega.{arith}
-use Rattle.protocol.specs.Places.{places}
 use Rattle.protocol.proofs.KindLaw.{silent-word}
 use Rattle.protocol.proofs.RowLaw.{heard-own}
 use Rattle.counting.specs.Leader.{view}
-use Rattle.counting.proofs.PassLaw.{place-matches, place-differs, read-front, own-past-end, none-past-end}
+use Rattle.counting.proofs.PassLaw.{place-matches, place-differs, read-front, Ends, past-end-counts}
+use Rattle.counting.proofs.tally.places_of.Given as given
 use Rattle.counting.proofs.tally.places_of.Needs as need
-use Rattle.counting.proofs.tally.places_of.Needs.{then-j-setup, else-j-setup, then-w-word, else-w-word, else-heard-setup·by·then-heard-setup·then-setup·else-said-word, else-heard-setup·by·then-heard-setup·else-setup, else-heard-setup·by·else-heard-setup}
+use Rattle.counting.proofs.tally.places_of.Needs.{After-loop-j, then-j-setup, else-j-setup, then-w-word, else-w-word, else-heard-setup·by·then-heard-setup·then-setup·else-said-word, else-heard-setup·by·then-heard-setup·else-setup, else-heard-setup·by·else-heard-setup}
 
 pub loop-j-again : need.loop-j-again
 loop-j-again g c =
@@ -31,28 +31,27 @@ loop-j-again g c =
           (cc, omega arith)
     ]
 
+-- what is counted once all places of the row are passed
+ends : (g : given.Over) (c : After-loop-j g) →
+    Ends (c .args .setup .own) (c .args .said) (c .args .row .now) (c .front-heard .result .now) (c .args .setup .n)
+    (g .V·Value .kind .word (c .args .v)) (c .word-word .result) (c .loop-j .count)
+ends g c =
+    past-end-counts (c .args .setup .own) (c .args .said) (c .args .row .now) (c .front-heard .result .now)
+    (c .args .setup .n) (c .front-heard .ensures) (g .V·Value .kind .word (c .args .v))
+    (silent-word (g .V·Value .kind) (g .V·Value·met .lawful) (c .args .v)) (c .word-word .result) (c .word-word .ensures)
+    (c .loop-j .count) (c .loop-j .j) (c .loop-j .inv .0) (omega arith)
+
 pub returns-then-said-word : need.returns-then-said-word
 returns-then-said-word g c =
-    let k = g .V·Value .kind in
-    let e = c .word-word .ensures in
-    own-past-end (c .args .setup .own) (c .args .said) (c .args .row .now) (c .front-heard .result .now)
-    (c .args .setup .n) (c .front-heard .ensures) (c .word-word .result)
-    (λ s. silent-word k (g .V·Value·met .lawful) (c .args .v) (sym e ∙ s))
-    (c .loop-j .count) (c .loop-j .j) (c .loop-j .inv .0) (omega arith)
-    (c .if-heard-setup .taken) (c .if-setup .taken) (c .if-said-word .taken) ∙
-    ap (λ w. places (view (c .args .setup) (c .args .said) (c .args .row .now)) w (c .args .setup .n)) e
+    ends g (need.at·returns-then-said-word g c .After-loop-j)
+    .own-past (c .if-heard-setup .taken) (c .if-setup .taken) (c .if-said-word .taken)
 
 pub returns-else-heard-setup : need.returns-else-heard-setup
 returns-else-heard-setup g c =
-    let k = g .V·Value .kind in
-    let e = c .word-word .ensures in
-    none-past-end (c .args .setup .own) (c .args .said) (c .args .row .now) (c .front-heard .result .now)
-    (c .args .setup .n) (c .front-heard .ensures) (c .word-word .result)
-    (λ s. silent-word k (g .V·Value·met .lawful) (c .args .v) (sym e ∙ s))
-    (c .loop-j .count) (c .loop-j .j) (c .loop-j .inv .0) (omega arith)
+    ends g (need.at·returns-else-heard-setup g c .After-loop-j)
+    .none-past
     (elim (c .else-heard-setup .came) [
       | else-heard-setup·by·then-heard-setup·then-setup·else-said-word w ↦ λ a b. w .if-said-word .left
       | else-heard-setup·by·then-heard-setup·else-setup w ↦ λ a b d. omega (arith, w .if-setup .left)
       | else-heard-setup·by·else-heard-setup w ↦ λ a b d. omega (arith, w .if-heard-setup .left)
-    ]) ∙
-    ap (λ w. places (view (c .args .setup) (c .args .said) (c .args .row .now)) w (c .args .setup .n)) e
+    ])
