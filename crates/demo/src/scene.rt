@@ -32,6 +32,7 @@ impl Scene {
         ensures answers { λ r. ⌜ r ≡ answersTo (now (self .entry) .entries) (now (self .entry) .forged) ⌝ }
         ensures promise { λ r. ⌜ Promise (now (self .entry) .entries) r ⌝ }
     {
+        // these two do nothing when they run: the promise rests on what their contracts say
         runs_exist::<Count<Point>>();
         Count::<Point>::weak_law();
         let [x, y, z] = self.entries;
