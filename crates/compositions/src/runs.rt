@@ -85,7 +85,8 @@ mod tests {
         }
     }
 
-    // What station 0 of 64, of which 21 may be faulty, answers where `many` stations say its point and the others that one.
+    // What station 0 of 64, of which 21 may be faulty, answers where `many` stations say its point and the others
+    // the word `other`.
     fn of_64(mine: Point, other: u64, many: usize) -> Option<Option<Point>> {
         let mut row = [other; 64];
         fill(&mut row, many, mine.word());

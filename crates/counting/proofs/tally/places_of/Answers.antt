@@ -38,7 +38,8 @@ ends : (g : given.Over) (c : After-loop-j g) →
 ends g c =
     past-end-counts (c .args .setup .own) (c .args .said) (c .args .row .now) (c .front-heard .result .now)
     (c .args .setup .n) (c .front-heard .ensures) (g .V·Value .kind .word (c .args .v))
-    (silent-word (g .V·Value .kind) (g .V·Value·met .lawful) (c .args .v)) (c .word-word .result) (c .word-word .ensures)
+    (silent-word (g .V·Value .kind) (g .V·Value·met .lawful) (c .args .v)) (c .word-word .result)
+    (c .word-word .ensures)
     (c .loop-j .count) (c .loop-j .j) (c .loop-j .inv .0) (omega arith)
 
 pub returns-then-said-word : need.returns-then-said-word
