@@ -15,30 +15,36 @@ use Rattle.counting.proofs.LeaderLaw.{leader-leads, leads-only}
 use Rattle.counting.proofs.PassLaw.{place-matches, place-differs}
 
 module _ {V : Type 0} (K : Kind V) (lawful : Lawful K) (row : ℕ → ℕ) (n : ℕ) where
-  majority-leads : (v : V) → n < 2 * places row (K .word v) n → Leads K row n (v, places row (K .word v) n)
-  majority-leads v m = record {
-    has-places = refl;
-    most-places = λ u. ⊎-elim
-        (λ (e : K .word u ≡ K .word v). rw e (omega arith))
-        (λ d. let r = rivals row (K .word u) (K .word v) n d in omega arith)
-        (cases-eq (K .word u) (K .word v));
-    least = λ u e. inl (⊎-elim
-        (word-injective K lawful u v)
-        (λ d. absurd (let r = rivals row (K .word u) (K .word v) n d in omega arith))
-        (cases-eq (K .word u) (K .word v)));
-    none = λ d.
-        let p = place-of row (K .word v) n (omega arith) in
-        let a : K .reads (row (p .0)) ≡ Some v = ap (K .reads) (p .2) ∙ lawful .reads-word v in
-        let b = d (p .0) (p .1) in
-        let z : _≡_ {A = ℕ} 0 1 = cc in absurd (omega arith);
-  }
+  -- a value with more places than any other leads
+  pub most-is-leader : (v : V) → 0 < places row (K .word v) n →
+      ((u : V) → (K .word u ≡ K .word v → ⊥) → places row (K .word u) n < places row (K .word v) n) →
+      (v, places row (K .word v) n) ≡ leader K row n
+  most-is-leader v some more = leads-only K lawful row n _ _ leads (leader-leads K lawful row n)
+    where
+      leads : Leads K row n (v, places row (K .word v) n)
+      leads = record {
+        has-places = refl;
+        most-places = λ u. ⊎-elim
+            (λ (e : K .word u ≡ K .word v). rw e (omega arith))
+            (λ d. let m = more u d in omega arith)
+            (cases-eq (K .word u) (K .word v));
+        least = λ u e. inl (⊎-elim
+            (word-injective K lawful u v)
+            (λ d. absurd (let m = more u d in omega arith))
+            (cases-eq (K .word u) (K .word v)));
+        none = λ d.
+            let p = place-of row (K .word v) n some in
+            let a : K .reads (row (p .0)) ≡ Some v = ap (K .reads) (p .2) ∙ lawful .reads-word v in
+            let b = d (p .0) (p .1) in
+            let z : _≡_ {A = ℕ} 0 1 = cc in absurd (omega arith);
+      }
 
   pub majority-is-leader : (best : V × ℕ) → best .1 ≡ places row (K .word (best .0)) n → n < 2 * best .1 →
       best ≡ leader K row n
   majority-is-leader best e m =
-      let p : n < 2 * places row (K .word (best .0)) n = omega arith in
       (λ i. (best .0, e i)) ∙
-      leads-only K lawful row n _ _ (majority-leads (best .0) p) (leader-leads K lawful row n)
+      most-is-leader (best .0) (omega arith)
+      (λ u d. let r = rivals row (K .word u) (K .word (best .0)) n d in omega arith)
 
 -- after j places: `word` is at most `lead` places ahead of all others together, and every other is behind by as many
 pub record Lead (row : ℕ → ℕ) (j word lead : ℕ) : Type 0 where

@@ -2,3 +2,4 @@ pub mod Leader
 pub mod Majority
 pub mod Counting
 pub mod QuorumRule
+pub mod Grading

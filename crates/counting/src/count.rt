@@ -45,8 +45,7 @@ pub impl<V: Value> Machine for Count<V> as CountMachine {
     }
 
     fn begin(setup: Setup, value: V) -> Count<V> {
-        let rounds = Self::rounds(setup.n, setup.t);
-        let state = match setup.refusal(Self::max_stations(), Self::max_faulty(), rounds) {
+        let state = match Self::refusal(setup) {
             Some(_) => CountState::Idle,
             None => CountState::Voting {
                 setup,

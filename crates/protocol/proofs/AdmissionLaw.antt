@@ -1,16 +1,33 @@
 -- A setup is refused by the lowest number that applies, and not at all within the limits.
 use mathlib.Core.Path.{_≡_, refl}
-use Prim.Native.Nat.{_*_}
+use Prim.Native.Nat.{ℕ, _*_, _≤_, _<_}
+use native.Mathlib.Omega.{arith}
 use lib.Dec.{leb, ltb}
 use Rattle.std.proofs.shelf.Tests.{or-from, or-parts, le-ltb, lt-leb, ltb-false, leb-false}
 use Rattle.std.specs.declared.option.Option.the-variants.{None}
 use Rattle.protocol.specs.declared.setup.Setup.{Setup}
 use Rattle.protocol.specs.Admission.{setupTests, LowestAdmission}
-use Rattle.protocol.specs.Protocol.{Protocol, Admitted, ExactAdmission, refused}
+use Rattle.protocol.specs.Protocol.{Protocol, Takes, Admitted, ExactAdmission, refused}
+use Rattle.protocol.specs.Run.{station}
 use Rattle.protocol.proofs.RefusalLaw.{first-lowest, none-applies}
 
 pub lowest-admission : LowestAdmission
 lowest-admission maxStations maxFaulty rounds s = first-lowest (setupTests maxStations maxFaulty rounds s) refl
+
+pub station-admitted : {V A : Type 0} {P : Protocol V A} {n t j : ℕ} → Takes P n t → j < n →
+    Admitted P (station n t j)
+station-admitted takes l = record { takes = takes; own-number = l }
+
+-- a vote with no lower limits and no more rounds takes as much
+pub takes-too : {V A W B : Type 0} {P : Protocol V A} {Q : Protocol W B} {n t : ℕ} → Takes Q n t →
+    Q .maxStations ≤ P .maxStations → Q .maxFaulty ≤ P .maxFaulty → P .rounds n t ≤ Q .rounds n t → Takes P n t
+takes-too h stations faulty rounds = record {
+  two-stations = h .two-stations;
+  max-stations = let l = h .max-stations in omega arith;
+  max-faulty = let l = h .max-faulty in omega arith;
+  third = h .third;
+  in-time = let l = h .in-time in omega arith;
+}
 
 pub not-refused : {V A : Type 0} (P : Protocol V A) (s : Setup) → Admitted P s → refused P s ≡ None
 not-refused P s a =

@@ -5,3 +5,5 @@ pub mod KindLaw
 pub mod RefusalLaw
 pub mod AdmissionLaw
 pub mod CourseLaw
+pub mod RunLaw
+pub mod NestLaw

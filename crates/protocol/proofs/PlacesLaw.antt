@@ -5,7 +5,7 @@ use mathlib.Core.Logic.{_⊎_, inl, inr, ⊎-elim}
 use Prim.Native.Nat.{ℕ, suc, zero, _+_, _≤_, _<_}
 use native.Mathlib.Omega.{arith}
 use lib.Dec.{eqb}
-use Rattle.std.proofs.shelf.Tests.{cases-bool, eqb-true, eq-eqb, cases-eq}
+use Rattle.std.proofs.shelf.Tests.{cases-bool, eqb-true, eq-eqb, cases-eq, cases-lt}
 use Rattle.protocol.specs.Places.{count, places}
 
 -- each number that passes p passes q or r
@@ -70,6 +70,16 @@ some-or-none p (suc n) = ⊎-elim
 pub count-none : (p : ℕ → Bool) (n : ℕ) → ((j : ℕ) → j < n → p j ≡ false) → count p n ≡ 0
 count-none p zero h = refl
 count-none p (suc n) h = rw (h n (omega arith)) (omega (arith, count-none p n (λ j l. h j (omega arith))))
+
+-- the first m of n all pass
+pub count-first : (p : ℕ → Bool) (m n : ℕ) → m ≤ n → ((j : ℕ) → j < m → p j ≡ true) → m ≤ count p n
+count-first p m zero l all = omega arith
+count-first p m (suc n) l all = ⊎-elim
+    (λ (h : m < suc n). let r = count-first p m n (omega arith) all in omega arith)
+    (λ (h : suc n ≤ m).
+    let r = count-first p n n (omega arith) (λ j k. all j (omega arith)) in
+    rw (all n (omega arith)) (omega arith))
+    (cases-lt m (suc n))
 
 -- rows that are alike at the first n places
 pub places-same : (row row′ : ℕ → ℕ) (w n : ℕ) → ((j : ℕ) → j < n → row j ≡ row′ j) →

@@ -5,6 +5,7 @@ use mathlib.Core.Logic.{_⊎_}
 use Prim.Native.Nat.{ℕ}
 use Rattle.std.specs.declared.option.Option.{Option}
 use Rattle.std.specs.declared.option.Option.the-variants.{Some, None}
+use Rattle.std.specs.Options.{valueOr}
 use Rattle.protocol.specs.Words.{silent}
 
 pub record Kind (V : Type 0) : Type 0 where
@@ -25,3 +26,13 @@ pub record Lawful {V : Type 0} (K : Kind V) : Type 0 where
   pub transitive : (a b c : V) → K .less a b ≡ true → K .less b c ≡ true → K .less a c ≡ true
   -- rest is less than every other value
   pub rest-least : (v : V) → (v ≡ K .rest → ⊥) → K .less (K .rest) v ≡ true
+
+module _ {V : Type 0} (K : Kind V) where
+  -- the word by which a value or none is told
+  abbrev pub wordOf : Option V → ℕ
+  wordOf None = silent
+  wordOf (Some v) = K .word v
+
+  -- the value that a word reads as, or rest
+  abbrev pub valueOf : ℕ → V
+  valueOf w = valueOr (K .reads w) (K .rest)

@@ -8,3 +8,4 @@ pub mod Orderly
 pub mod Run
 pub mod Laws
 pub mod Course
+pub mod Nest

@@ -1,19 +1,23 @@
 -- A voting protocol by its meaning: states, and what is said, heard and answered in them.
 use mathlib.Core.Path.{_≡_}
 use mathlib.Core.List.{List}
-use Prim.Native.Nat.{ℕ, suc, zero, _≤_, _<_, _*_}
+use Prim.Native.Nat.{ℕ, suc, zero, _≤_, _<_, _*_, min}
 use Rattle.std.specs.declared.option.Option.{Option}
 use Rattle.std.specs.declared.option.Option.the-variants.{None}
 use Rattle.protocol.specs.declared.refusal.Refusal.{Refusal}
 use Rattle.protocol.specs.declared.setup.Setup.{Setup}
 use Rattle.protocol.specs.Admission.{refusal}
 
+-- numbers of rounds are kept up to 65,536, which stands for more too
+abbrev pub saturated : (rounds : ℕ) → ℕ
+saturated rounds = min 65536 rounds
+
 -- V: what a station enters; A: what it answers
 pub record Protocol (V A : Type 0) : Type 1 where
   pub State : Type 0
   pub maxStations : ℕ
   pub maxFaulty : ℕ
-  -- how many rounds n stations take of which t may be faulty; 65,536 stands for more too
+  -- how many rounds n stations take of which t may be faulty
   pub rounds : (n t : ℕ) → ℕ
   pub begun : Setup → V → State
   pub heard : State → List ℕ → State

@@ -19,6 +19,8 @@ pub use refusal::RefusalDebug;
 pub use refusal::RefusalEq;
 pub use refusal::RefusalPartialEq;
 pub use runs::runs_exist;
+pub use runs::stretches_are_runs;
+pub use setup::MANY_ROUNDS;
 pub use setup::Setup;
 pub use value::Value;
 pub use word::SILENT;

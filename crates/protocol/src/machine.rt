@@ -1,8 +1,9 @@
 ghost use mathlib.Core.Path.{_≡_};
 ghost use Prim.Native.Nat.{_≤_};
-ghost use Rattle.protocol.specs.Protocol.{Protocol};
+ghost use Rattle.protocol.specs.Protocol.{Protocol, refused};
 ghost use Rattle.protocol.specs.Orderly.{Orderly};
 ghost use Rattle.protocol.specs.Laws.{WeakLaw, GradedLaw, FullLaw};
+use crate::refusal::Refusal;
 use crate::setup::Setup;
 use crate::value::Value;
 
@@ -29,6 +30,14 @@ pub trait Machine: Copy {
     fn rounds(n: usize, t: usize) -> usize
         ensures value { λ r. ⌜ r ≡ model .rounds n t ⌝ }
         ensures bound { λ r. ⌜ r ≤ 65536 ⌝ };
+
+    /// Why the vote does not take a setup: the lowest refusal that applies.
+    fn refusal(setup: Setup) -> Option<Refusal>
+        ensures { λ r. ⌜ r ≡ refused model setup ⌝ }
+    {
+        let rounds = Self::rounds(setup.n, setup.t);
+        setup.refusal(Self::max_stations(), Self::max_faulty(), rounds)
+    }
 
     /// A machine before its first round, or an idle one where the setup is refused.
     fn begin(setup: Setup, value: Self::Value) -> Self

@@ -2,6 +2,9 @@ ghost use mathlib.Core.Path.{_≡_};
 ghost use Rattle.protocol.specs.Admission.{refusal};
 use crate::refusal::Refusal;
 
+/// Numbers of rounds are kept up to this one, which stands for more too; a vote that takes so many is refused.
+pub const MANY_ROUNDS: usize = 65536;
+
 /// What a station knows of a vote before it begins.
 #[derive(Clone, Copy)]
 pub struct Setup {
@@ -24,7 +27,7 @@ impl Setup {
             Some(Refusal::Faulty)
         } else if self.n <= self.own {
             Some(Refusal::OwnNumber)
-        } else if 65535 < rounds {
+        } else if MANY_ROUNDS <= rounds {
             Some(Refusal::Rounds)
         } else {
             None
