@@ -1,1 +1,3 @@
 pub mod PhaseKingLaw
+pub mod TurpinCoanLaw
+pub mod StepDownLaw

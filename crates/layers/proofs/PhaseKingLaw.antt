@@ -168,9 +168,11 @@ module _ {V : Type 0} (K : Kind V) (G : Protocol V (V × Bool)) (orderly : Order
         let e : (t + 1) * span n t ≡ suc t * span n t = ap (λ x. x * span n t) (add-one t) in
         omega (arith, suc-mul t (span n t));
     early = λ s v rows k a l. before-end s v rows a k l .unanswered;
-    late = λ s v rows a.
-        (_, ap (λ k. kingAnswer K G (after L (L .begun s v) rows k)) (last (a .takes)) ∙
-        ap (kingAnswer K G) (ends s v rows a));
+    late = λ s v rows a. (
+      _,
+      ap (λ k. kingAnswer K G (after L (L .begun s v) rows k)) (last (a .takes)) ∙
+          ap (kingAnswer K G) (ends s v rows a),
+    );
     reading = λ s v rows k a l. before-end s v rows a k l .reads;
     over = over;
     idle = λ s v r e. rw e (record { says = refl; stays = λ row. refl }, refl);

@@ -1,1 +1,3 @@
 pub mod PhaseKing
+pub mod TurpinCoan
+pub mod StepDown
