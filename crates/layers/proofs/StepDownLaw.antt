@@ -14,7 +14,7 @@ use Rattle.protocol.specs.Orderly.{Orderly, ReadsOnly}
 use Rattle.protocol.specs.Protocol.{Protocol, Takes, Admitted, after}
 use Rattle.protocol.specs.Run.{Run, Correct, Unanimous, answered}
 use Rattle.protocol.proofs.AdmissionLaw.{takes-too}
-use Rattle.layers.specs.StepDown.{answering, weakly, surely, asWeak, asGraded}
+use Rattle.layers.specs.StepDown.{answering, weakForm, gradedForm, asWeak, asGraded}
 
 module _ {V A B : Type 0} (f : A → B) (P : Protocol V A) where
   abbrev L : Protocol V B
@@ -81,12 +81,12 @@ module _ {V : Type 0} (P : Protocol V V) (law : FullLaw P) where
 
   pub stepdown-weak : WeakLaw (asWeak P)
   stepdown-weak = record {
-    validity = λ n t R v all i c. valid weakly R v all i c;
-    consistency = λ n t R v i j c d e. inl (alike weakly R (Some v) i j c d e);
+    validity = λ n t R v all i c. valid weakForm R v all i c;
+    consistency = λ n t R v i j c d e. inl (alike weakForm R (Some v) i j c d e);
   }
 
   pub stepdown-graded : GradedLaw (asGraded P)
   stepdown-graded = record {
-    validity = λ n t R v all i c. valid surely R v all i c;
-    consistency = λ n t R v i j c d e. (true, alike surely R (v, true) i j c d e);
+    validity = λ n t R v all i c. valid gradedForm R v all i c;
+    consistency = λ n t R v i j c d e. (true, alike gradedForm R (v, true) i j c d e);
   }

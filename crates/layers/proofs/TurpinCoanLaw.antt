@@ -90,9 +90,11 @@ module _ {V : Type 0} (K : Kind V) (G : Protocol V (V × Bool)) (orderly : Order
     ends : (decision : Switch) × (after L (L .begun s v) rows (at (B .rounds (s .n) (s .t))) ≡
         Answered (decided K (K .word (graded-late .0 .0)) decision))
     ends =
-        let f = b-orderly .late s (entryFor (graded-late .0 .1)) (λ k. rows (at k)) switch-admitted in
-        (f .0, beyond (switch-nest (K .word (graded-late .0 .0))) b-orderly s (entryFor (graded-late .0 .1))
-        switch-admitted (L .begun s v) rows at (λ k. add-suc _ k) switch-begins (f .0) (f .1))
+        let f = b-orderly .late s (entryFor (graded-late .0 .1)) (λ k. rows (at k)) switch-admitted in (
+          f .0,
+          beyond (switch-nest (K .word (graded-late .0 .0))) b-orderly s (entryFor (graded-late .0 .1))
+              switch-admitted (L .begun s v) rows at (λ k. add-suc _ k) switch-begins (f .0) (f .1),
+        )
 
     before-end : (k : ℕ) → k < L .rounds (s .n) (s .t) →
         Underway L (s .n) (s .own) (after L (L .begun s v) rows k)
@@ -112,9 +114,11 @@ module _ {V : Type 0} (K : Kind V) (G : Protocol V (V × Bool)) (orderly : Order
     faults = let x = orderly .faults in let y = b-orderly .faults in omega arith;
     some-rounds = λ n t. let x = orderly .some-rounds n t in omega arith;
     early = λ s v rows k a l. before-end s v rows a k l .unanswered;
-    late = λ s v rows a.
-        (_, ap (λ k. tcAnswer K G B (after L (L .begun s v) rows k)) (last (a .takes)) ∙
-        ap (tcAnswer K G B) (ends s v rows a .1));
+    late = λ s v rows a. (
+      _,
+      ap (λ k. tcAnswer K G B (after L (L .begun s v) rows k)) (last (a .takes)) ∙
+          ap (tcAnswer K G B) (ends s v rows a .1),
+    );
     reading = λ s v rows k a l. before-end s v rows a k l .reads;
     over = over;
     idle = λ s v r e. rw e (record { says = refl; stays = λ row. refl }, refl);

@@ -18,14 +18,14 @@ answering f P = record {
   answer = λ s. mapped f (P .answer s);
 }
 
-abbrev pub weakly : {V : Type 0} → V → Option V
-weakly v = Some v
+abbrev pub weakForm : {V : Type 0} → V → Option V
+weakForm v = Some v
 
-abbrev pub surely : {V : Type 0} → V → V × Bool
-surely v = (v, true)
+abbrev pub gradedForm : {V : Type 0} → V → V × Bool
+gradedForm v = (v, true)
 
 abbrev pub asWeak : {V : Type 0} → Protocol V V → Protocol V (Option V)
-asWeak P = answering weakly P
+asWeak P = answering weakForm P
 
 abbrev pub asGraded : {V : Type 0} → Protocol V V → Protocol V (V × Bool)
-asGraded P = answering surely P
+asGraded P = answering gradedForm P
