@@ -1,1 +1,3 @@
+pub mod Composition
+pub mod Named
 pub mod Worked

@@ -2,9 +2,18 @@
 
 ghost use Rattle.compositions.specs.Worked.{Worked};
 
+mod laws;
 mod machines;
 mod rows;
 mod runs;
+
+pub use laws::King;
+pub use laws::ThreeKings;
+pub use laws::Wide;
+pub use laws::compositions_keep_their_laws;
+pub use laws::king_law;
+pub use laws::three_kings_law;
+pub use laws::wide_law;
 
 /// The worked cases hold of the definitions.
 pub fn worked_cases()

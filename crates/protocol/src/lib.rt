@@ -23,5 +23,6 @@ pub use runs::stretches_are_runs;
 pub use setup::MANY_ROUNDS;
 pub use setup::Setup;
 pub use value::Value;
+pub use value::lawful_kind;
 pub use word::SILENT;
 pub use word::heard_at;

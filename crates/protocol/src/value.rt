@@ -23,3 +23,8 @@ pub trait Value: Copy {
     fn rest() -> Self
         ensures { λ r. ⌜ r ≡ kind .rest ⌝ };
 }
+
+/// The laws of a kind of value, which every implementation of `Value` has proved.
+pub fn lawful_kind<V: Value>()
+    ensures { λ _. ⌜ Lawful (V·Value .kind) ⌝ }
+{}
