@@ -1,45 +1,52 @@
--- What is promised of the vote that the program runs, for whatever entries and forged words.
+-- A vote of four stations of which station 0 is faulty: what the others answer, and what is promised of that,
+-- whatever they enter and whatever station 0 sends.
 use mathlib.Core.Path.{_≡_}
 use mathlib.Core.Bool.{Bool}
 use mathlib.Core.List.{List, [], _∷_}
-use mathlib.Core.Logic.{_⊎_}
-use Prim.Native.Nat.{ℕ, _<_}
+use Prim.Native.Nat.{ℕ, _-_, _<_}
 use lib.Dec.{ltb}
 use lib.ListN.{getD}
 use Rattle.std.specs.declared.option.Option.{Option}
 use Rattle.std.specs.declared.option.Option.the-variants.{Some, None}
-use Rattle.std.specs.Options.{flattened}
 use Rattle.protocol.specs.Course.{course}
-use Rattle.counting.specs.Counting.{counting}
-use Rattle.values.specs.declared.point.Point.{Point}
-use Rattle.values.specs.PointKind.{pointKind, restPoint}
+use Rattle.protocol.specs.Kind.{Kind}
+use Rattle.protocol.specs.Protocol.{Protocol}
+use Rattle.protocol.specs.Words.{silent}
 
--- stations 0, 1 and 2 of the four are correct
+-- stations 1, 2 and 3 are correct
 abbrev pub correct : ℕ → Bool
-correct j = ltb j 3
+correct j = ltb 0 j
 
-module _ (entries : List Point) (forged : List ℕ) where
-  -- the state of station i after k rounds; the faulty one tells it the same word in every round
-  abbrev pub stateOf : (k i : ℕ) → counting pointKind .State
-  stateOf =
-      course (counting pointKind) 4 1 correct (λ j. getD entries j restPoint)
-      (λ round listener sender. getD forged listener 0)
+-- lists of entries, answers and words begin with station 1
+abbrev pub entered : {V : Type 0} → Kind V → (entries : List V) → (station : ℕ) → V
+entered K entries j = getD entries (j - 1) (K .rest)
+
+-- the words that the faulty station sends in a round; past the list of rounds it is silent
+abbrev pub sentIn : (forged : List (List ℕ)) → (round : ℕ) → List ℕ
+sentIn forged k = getD forged k (silent ∷ (silent ∷ (silent ∷ [])))
+
+abbrev pub sent : (forged : List (List ℕ)) → (round listener : ℕ) → ℕ
+sent forged k i = getD (sentIn forged k) (i - 1) 0
+
+module _ {V : Type 0} (K : Kind V) (P : Protocol V V) (entries : List V) (forged : List (List ℕ)) where
+  -- the state of station i after k rounds
+  abbrev pub stateOf : (k i : ℕ) → P .State
+  stateOf = course P 4 1 correct (entered K entries) (λ round listener sender. sent forged round listener)
 
   -- what it answers then
-  abbrev pub answerOf : (k i : ℕ) → Option Point
-  answerOf k i = flattened (counting pointKind .answer (stateOf k i))
+  abbrev pub answerOf : (k i : ℕ) → Option V
+  answerOf k i = P .answer (stateOf k i)
 
-  -- what the three correct stations answer then
-  abbrev pub answersAfter : (k : ℕ) → List (Option Point)
-  answersAfter k = answerOf k 0 ∷ (answerOf k 1 ∷ (answerOf k 2 ∷ []))
+  abbrev pub answersAfter : (k : ℕ) → List (Option V)
+  answersAfter k = answerOf k 1 ∷ (answerOf k 2 ∷ (answerOf k 3 ∷ []))
 
-  -- after the last round
-  abbrev pub answersTo : List (Option Point)
-  answersTo = answersAfter (counting pointKind .rounds 4 1)
+  -- what the three correct stations answer after the last round
+  abbrev pub answersTo : List (Option V)
+  answersTo = answersAfter (P .rounds 4 1)
 
--- the weak law, said of what the three correct stations entered and answered
-pub record Promise (entries : List Point) (answers : List (Option Point)) : Type 0 where
-  pub validity : (v : Point) → ((i : ℕ) → i < 3 → getD entries i restPoint ≡ v) → (i : ℕ) → i < 3 →
+-- the full law, said of what the three correct stations entered and answered
+pub record Promise {V : Type 0} (K : Kind V) (entries : List V) (answers : List (Option V)) : Type 0 where
+  pub validity : (v : V) → ((i : ℕ) → i < 3 → getD entries i (K .rest) ≡ v) → (i : ℕ) → i < 3 →
       getD answers i None ≡ Some v
-  pub consistency : (v : Point) (i j : ℕ) → i < 3 → j < 3 → getD answers i None ≡ Some v →
-      (getD answers j None ≡ Some v) ⊎ (getD answers j None ≡ None)
+  pub agreement : (i j : ℕ) → i < 3 → j < 3 →
+      (v : V) × ((getD answers i None ≡ Some v) × (getD answers j None ≡ Some v))

@@ -1,55 +1,51 @@
 ghost use mathlib.Core.Path.{_≡_};
-ghost use Rattle.protocol.specs.Run.{station};
-ghost use Rattle.counting.specs.Counting.{countBegun};
 ghost use Rattle.values.specs.PointKind.{pointKind};
-ghost use Rattle.demo.specs.Promise.{Promise, answersTo};
+ghost use Rattle.demo.specs.Promise.{answersTo, Promise};
+ghost use Rattle.demo.specs.Settling.{settling};
+use crate::vote::vote;
 use counting::Count;
 use counting::CountMachine;
 use counting::CountWeak;
-use protocol::Machine;
-use protocol::Setup;
-use protocol::WeakVote;
-use protocol::runs_exist;
+use counting::Grading;
+use counting::GradingGraded;
+use counting::GradingMachine;
+use layers::PhaseKing;
+use layers::PhaseKingFull;
+use layers::PhaseKingMachine;
+use layers::TurpinCoan;
+use layers::TurpinCoanFull;
+use layers::TurpinCoanMachine;
 use values::Point;
 use values::PointValue;
+use values::Switch;
+use values::SwitchValue;
 
-/// What the correct stations 0, 1 and 2 enter, and the word that the faulty station 3 sends to each of them.
+/// An operating point by Turpin-Coan, whether it is taken by a phase king on the switch.
+pub type Settling = TurpinCoan<Grading<Count<Point>>, PhaseKing<Grading<Count<Switch>>>>;
+
+/// The rounds of that vote among four stations of which one may be faulty.
+pub const ROUNDS: usize = 8;
+
+/// What the correct stations 1, 2 and 3 enter, and the words that the faulty station 0 sends each of them.
 #[derive(Clone, Copy)]
 pub struct Scene {
     pub entries: [Point; 3],
-    pub forged: [u64; 3],
-}
-
-fn begun(own: usize, entry: Point) -> Count<Point>
-    ensures { λ r. ⌜ r .state ≡ countBegun pointKind (station 4 1 own) entry ⌝ }
-{
-    Count::<Point>::begin(Setup { n: 4, t: 1, own }, entry)
+    pub forged: [[u64; 3]; ROUNDS],
 }
 
 impl Scene {
-    /// Runs the whole vote: what the correct stations answer, each a point or none.
-    pub fn vote(&self) -> [Option<Point>; 3]
-        ensures answers { λ r. ⌜ r ≡ answersTo (now (self .entry) .entries) (now (self .entry) .forged) ⌝ }
-        ensures promise { λ r. ⌜ Promise (now (self .entry) .entries) r ⌝ }
+    /// How many rounds the vote takes.
+    pub fn rounds() -> usize
+        ensures { λ r. ⌜ r ≡ settling .rounds 4 1 ⌝ }
     {
-        // these two do nothing when they run: the promise rests on what their contracts say
-        runs_exist::<Count<Point>>();
-        Count::<Point>::weak_law();
-        let [x, y, z] = self.entries;
-        let [to_first, to_second, to_third] = self.forged;
-        let mut first = begun(0, x);
-        let mut second = begun(1, y);
-        let mut third = begun(2, z);
-        for k in 0..Count::<Point>::rounds(4, 1) {
-            let (a, b, c) = (first.say(), second.say(), third.say());
-            first.hear(&[a, b, c, to_first]);
-            second.hear(&[a, b, c, to_second]);
-            third.hear(&[a, b, c, to_third]);
-        }
-        [
-            first.answer().flatten(),
-            second.answer().flatten(),
-            third.answer().flatten(),
-        ]
+        ROUNDS
+    }
+
+    /// Runs the whole vote: what the correct stations answer.
+    pub fn vote(&self) -> [Option<Point>; 3]
+        ensures answers { λ r. ⌜ r ≡ answersTo pointKind settling (now (self .entry) .entries) (now (self .entry) .forged) ⌝ }
+        ensures promise { λ r. ⌜ Promise pointKind (now (self .entry) .entries) r ⌝ }
+    {
+        vote::<Point, Settling>(&self.entries, &self.forged)
     }
 }
