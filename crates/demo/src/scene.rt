@@ -1,7 +1,7 @@
 ghost use mathlib.Core.Path.{_≡_};
 ghost use Rattle.values.specs.PointKind.{pointKind};
-ghost use Rattle.demo.specs.Promise.{answersTo, Promise};
-ghost use Rattle.demo.specs.Settling.{settling};
+ghost use Rattle.demo.specs.Promise.{Promise};
+ghost use Rattle.demo.specs.Settling.{settling, settledIn};
 use crate::vote::vote;
 use counting::Count;
 use counting::CountMachine;
@@ -15,6 +15,7 @@ use layers::PhaseKingMachine;
 use layers::TurpinCoan;
 use layers::TurpinCoanFull;
 use layers::TurpinCoanMachine;
+use protocol::Machine;
 use values::Point;
 use values::PointValue;
 use values::Switch;
@@ -23,7 +24,7 @@ use values::SwitchValue;
 /// An operating point by Turpin-Coan, whether it is taken by a phase king on the switch.
 pub type Settling = TurpinCoan<Grading<Count<Point>>, PhaseKing<Grading<Count<Switch>>>>;
 
-/// The rounds of that vote among four stations of which one may be faulty.
+/// For how many rounds words are forged: as many as the vote takes.
 pub const ROUNDS: usize = 8;
 
 /// What the correct stations 1, 2 and 3 enter, and the words that the faulty station 0 sends each of them.
@@ -38,12 +39,12 @@ impl Scene {
     pub fn rounds() -> usize
         ensures { λ r. ⌜ r ≡ settling .rounds 4 1 ⌝ }
     {
-        ROUNDS
+        Settling::rounds(4, 1)
     }
 
     /// Runs the whole vote: what the correct stations answer.
     pub fn vote(&self) -> [Option<Point>; 3]
-        ensures answers { λ r. ⌜ r ≡ answersTo pointKind settling (now (self .entry) .entries) (now (self .entry) .forged) ⌝ }
+        ensures answers { λ r. ⌜ r ≡ settledIn (now (self .entry)) ⌝ }
         ensures promise { λ r. ⌜ Promise pointKind (now (self .entry) .entries) r ⌝ }
     {
         vote::<Point, Settling>(&self.entries, &self.forged)
