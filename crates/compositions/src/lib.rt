@@ -2,6 +2,8 @@
 
 ghost use Rattle.compositions.specs.Worked.{Worked};
 
+mod adversary;
+mod hostile;
 mod laws;
 mod machines;
 mod rows;
