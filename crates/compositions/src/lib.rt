@@ -8,6 +8,7 @@ mod laws;
 mod machines;
 mod rows;
 mod runs;
+mod steps;
 
 pub use laws::King;
 pub use laws::ThreeKings;

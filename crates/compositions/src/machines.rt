@@ -2,10 +2,28 @@
 
 #[cfg(test)]
 mod tests {
+    use crate::King;
+    use crate::ThreeKings;
+    use crate::Wide;
     use counting::Count;
     use counting::CountMachine;
+    use counting::CountWeak;
+    use counting::Grading;
+    use counting::GradingGraded;
+    use counting::GradingMachine;
+    use layers::AsGraded;
+    use layers::GradedForm;
+    use layers::PhaseKing;
+    use layers::PhaseKingFull;
+    use layers::PhaseKingMachine;
+    use layers::StepDownGraded;
+    use layers::StepDownMachine;
+    use layers::TurpinCoanFull;
+    use layers::TurpinCoanMachine;
     use protocol::Machine;
+    use protocol::Refusal;
     use protocol::RefusalDebug;
+    use protocol::RefusalPartialEq;
     use protocol::SILENT;
     use protocol::Setup;
     use protocol::Value;
@@ -18,12 +36,30 @@ mod tests {
     use values::SwitchPartialEq;
     use values::SwitchValue;
 
+    type FourKings<V> = PhaseKing<AsGraded<ThreeKings<V>>>;
+
+    const LARGEST: Setup = Setup {
+        n: 64,
+        t: 21,
+        own: 0,
+    };
+
     // An idle machine is silent, and no row gives it an answer.
+    fn stays_idle<M: Machine>(machine: &mut M) -> bool {
+        for _ in 0..9 {
+            if machine.say() != SILENT || machine.answer().is_some() {
+                return false;
+            }
+            machine.hear(&[1; 64]);
+        }
+        true
+    }
+
     fn is_idle(n: usize, t: usize, own: usize) -> bool {
-        let mut machine = Count::<Switch>::begin(Setup { n, t, own }, Switch::Go);
-        let before = machine.say();
-        machine.hear(&[1; 64]);
-        before == SILENT && machine.say() == SILENT && machine.answer().is_none()
+        stays_idle(&mut Count::<Switch>::begin(Setup { n, t, own }, Switch::Go))
+            && stays_idle(&mut Grading::<Count<Switch>>::begin(Setup { n, t, own }, Switch::Go))
+            && stays_idle(&mut King::<Switch>::begin(Setup { n, t, own }, Switch::Go))
+            && stays_idle(&mut Wide::<Switch>::begin(Setup { n, t, own }, Switch::Go))
     }
 
     // One that votes says its entry's word, and answers once it has heard a row.
@@ -49,20 +85,64 @@ mod tests {
         check(is_idle(usize::MAX, usize::MAX, usize::MAX)).note("the largest numbers")
     }
 
+    // A machine that has its answer after as many rounds and no sooner, and then is deaf and silent.
+    fn ends_after<M: Machine<Value = Switch>>(machine: &mut M, rounds: usize, first: u64) -> bool {
+        for k in 0..rounds {
+            if machine.answer().is_some() || (k == 0 && machine.say() != first) {
+                return false;
+            }
+            machine.hear(&[first; 64]);
+        }
+        for _ in 0..9 {
+            if machine.answer().is_none() || machine.say() != SILENT {
+                return false;
+            }
+            machine.hear(&[0; 64]);
+        }
+        true
+    }
+
+    #[test]
+    fn answers_come_with_the_last_round() -> Result<(), Fail> {
+        let four = Setup { n: 4, t: 1, own: 2 };
+        check(ends_after(&mut Count::<Switch>::begin(four, Switch::Go), 1, 1))?;
+        check(ends_after(&mut Grading::<Count<Switch>>::begin(four, Switch::Go), 2, 1))?;
+        check(ends_after(&mut King::<Switch>::begin(four, Switch::Go), 6, 1))?;
+        check(ends_after(&mut Wide::<Switch>::begin(four, Switch::Go), 8, 1))?;
+        check(ends_after(&mut AsGraded::<King<Switch>>::begin(four, Switch::Go), 6, 1))?;
+        check(ends_after(&mut King::<Switch>::begin(LARGEST, Switch::Go), 66, 1))
+    }
+
     #[test]
     fn nothing_changes_after_the_answer() -> Result<(), Fail> {
-        let mut machine = Count::<Switch>::begin(Setup { n: 4, t: 1, own: 0 }, Switch::Hold);
-        machine.hear(&[0, 0, 0, 1]);
-        check_eq(machine.answer(), Some(Some(Switch::Hold)))?;
-        check_eq(machine.say(), SILENT)?;
+        let mut machine = King::<Switch>::begin(Setup { n: 4, t: 1, own: 0 }, Switch::Hold);
+        for _ in 0..6 {
+            machine.hear(&[0, 0, 0, 1]);
+        }
+        check_eq(machine.answer(), Some(Switch::Hold))?;
         machine.hear(&[1, 1, 1, 1]);
-        check_eq(machine.answer(), Some(Some(Switch::Hold)))?;
+        check_eq(machine.answer(), Some(Switch::Hold))?;
         check_eq(machine.say(), SILENT)
+    }
+
+    // The rounds of 64 stations of which 21 may be faulty, and whether they are refused.
+    fn of_64<M: Machine>() -> (usize, Option<Refusal>) {
+        (M::rounds(64, 21), M::refusal(LARGEST))
+    }
+
+    #[test]
+    fn kings_above_kings() -> Result<(), Fail> {
+        check_eq(of_64::<ThreeKings<Switch>>(), (32450, None))?;
+        check_eq(of_64::<FourKings<Switch>>(), (65536, Some(Refusal::Rounds))).note(
+            "it would take 713,922",
+        )
     }
 
     #[test]
     fn a_machine_is_small() -> Result<(), Fail> {
-        check(size_of::<Count<Point>>() <= 64)
+        check(size_of::<Count<Point>>() <= 64)?;
+        check(size_of::<Wide<Point>>() <= 256)?;
+        check(size_of::<ThreeKings<Point>>() <= 1024)
     }
 
     #[test]

@@ -9,7 +9,7 @@ use std::marker::PhantomData;
 
 /// The form in which a full vote's answer is given by a vote that promises less.
 pub trait Form<V>: Copy {
-    type Answer;
+    type Answer: Copy;
 
     ghost form: { V → Self·Answer };
 

@@ -11,7 +11,7 @@ use crate::value::Value;
 pub trait Machine: Copy {
     type Value: Value;
 
-    type Answer;
+    type Answer: Copy;
 
     // what the machine means, and which of the protocol's states a machine is in
     ghost model: { Protocol Self·Value Self·Answer };
