@@ -137,7 +137,8 @@ module _ {V : Type 0} (K : Kind V) (W : Protocol V (Option V)) (orderly : Orderl
     ends i c =
         let f = answers orderly weak i (c .0) in
         ap (λ k. gradingAnswer K W (reached R i k)) (last (R .takes)) ∙
-        (ap (λ x. gradingAnswer K W (gradingHeard K W x (R .rows i round))) (goes-on orderly weak-begins i (f .0) c (f .1)) ∙
+        (ap (λ x. gradingAnswer K W (gradingHeard K W x (R .rows i round)))
+        (goes-on orderly weak-begins i (f .0) c (f .1)) ∙
         (ap (λ w. gradingAnswer K W (gradingHeard K W (Polling (station n t i) w) (R .rows i round)))
         (sym (tells i (f .0) c (f .1))) ∙
         ap (λ v. Some (v, leb (n - t) (best i .1))) (value-word K lawful (best i .0))))

@@ -8,7 +8,7 @@ use lib.Dec.{lit≤}
 use lib.ListN.{getD}
 use Rattle.std.proofs.shelf.Tests.{lt-ltb, ltb-true}
 use Rattle.std.specs.declared.option.Option.{Option}
-use Rattle.std.specs.declared.option.Option.the-variants.{Some, None}
+use Rattle.std.specs.declared.option.Option.the-variants.{None}
 use Rattle.protocol.specs.Course.{RunsExist, RunOf}
 use Rattle.protocol.specs.Kind.{Kind}
 use Rattle.protocol.specs.Laws.{FullLaw}

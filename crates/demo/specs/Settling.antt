@@ -1,5 +1,5 @@
--- The vote that the program runs: an operating point by Turpin-Coan over grading of counting and, on the switch, a phase
--- king over grading of counting.
+-- The vote that the program runs: an operating point by Turpin-Coan over grading of counting and, on the switch,
+-- a phase king over grading of counting.
 use mathlib.Core.Bool.{Bool}
 use mathlib.Core.List.{List}
 use Rattle.std.specs.declared.option.Option.{Option}

@@ -1,4 +1,4 @@
-//! Four stations settle an operating point; one of them is faulty, tells every other one something else and is king once.
+//! Four stations settle an operating point; one is faulty, tells every other one something else and is king once.
 
 mod scene;
 mod vote;

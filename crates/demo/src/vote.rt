@@ -25,7 +25,8 @@ pub fn vote<V: Value, M: FullVote + Machine<Value = V>>(
     entries: &[V; 3],
     forged: &[[u64; 3]],
 ) -> [Option<V>; 3]
-    ensures answers { λ r. ⌜ r ≡ answersTo (V·Value .kind) (M·Machine .model) (now (entries .entry)) (now (forged .entry)) ⌝ }
+    ensures answers { λ r. ⌜ r ≡ answersTo (V·Value .kind) (M·Machine .model)
+        (now (entries .entry)) (now (forged .entry)) ⌝ }
     ensures promise { λ r. ⌜ (Takes (M·Machine .model) 4 1 → Promise (V·Value .kind) (now (entries .entry)) r) ⌝ }
 {
     // these two do nothing when they run: the promise rests on what their contracts say

@@ -19,7 +19,8 @@ pub record Underway {V A : Type 0} (P : Protocol V A) (n own : ℕ) (s : P .Stat
 module _ {V A W B : Type 0} {P : Protocol V A} {L : Protocol W B} (N : Nest P L) (orderly : Orderly P) where
   -- a layer that begins the vote below in its round `at 0`, and hears these rows
   module _ (s : Setup) (v : V) (admitted : Admitted P s) (start : L .State) (rows : ℕ → List ℕ) (at : ℕ → ℕ)
-      (follows : (k : ℕ) → at (suc k) ≡ suc (at k)) (begins : after L start rows (at 0) ≡ N .inside (P .begun s v)) where
+      (follows : (k : ℕ) → at (suc k) ≡ suc (at k))
+      (begins : after L start rows (at 0) ≡ N .inside (P .begun s v)) where
     -- the state of the vote below after k of its rounds
     abbrev below : ℕ → P .State
     below k = after P (P .begun s v) (λ i. rows (at i)) k

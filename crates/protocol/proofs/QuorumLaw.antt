@@ -15,7 +15,8 @@ pub correct-among : (correct : ℕ → Bool) (n t : ℕ) → t < n → count (λ
 correct-among correct n t l few = ⊎-elim
     (λ f. f)
     (λ f. absurd (
-    let all = count-first (λ j. not (correct j)) (suc t) n l (λ j m. not-from-false (correct j) (f j m)) in omega arith))
+    let all = count-first (λ j. not (correct j)) (suc t) n l (λ j m. not-from-false (correct j) (f j m)) in
+    omega arith))
     (some-or-none correct (suc t))
 
 -- each correct listener reads at each correct place what that station said
