@@ -7,7 +7,8 @@ use Rattle.counting.proofs.GradingLaw.{grading-orderly, grading-graded}
 use Rattle.layers.proofs.PhaseKingLaw.{king-orderly, king-full}
 use Rattle.layers.proofs.TurpinCoanLaw.{tc-orderly, tc-full}
 use Rattle.layers.proofs.StepDownLaw.{answering-orderly, stepdown-weak, stepdown-graded}
-use Rattle.compositions.specs.Composition.{Over, Given, OnSwitch, Promise, Composition, Counting, Grading, PhaseKing, TurpinCoan, AsWeak, AsGraded, kindOf, protocol, Law, Compositions}
+use Rattle.compositions.specs.Composition.{Over, Given, OnSwitch, Promise, Composition, Counting, Grading, PhaseKing}
+use Rattle.compositions.specs.Composition.{TurpinCoan, AsWeak, AsGraded, kindOf, protocol, Law, Compositions}
 
 module _ {V : Type 0} (K : Kind V) (lawful : Lawful K) (switch-lawful : Lawful switchKind) where
   lawfulOf : (o : Over) → Lawful (kindOf K o)

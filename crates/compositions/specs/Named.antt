@@ -1,6 +1,7 @@
 -- Compositions by name.
 use Prim.Native.Nat.{ℕ, suc, zero}
-use Rattle.compositions.specs.Composition.{Over, Given, OnSwitch, Full, Graded, Composition, Counting, Grading, PhaseKing, TurpinCoan, AsGraded}
+use Rattle.compositions.specs.Composition.{Over, Given, OnSwitch, Full, Graded, Composition}
+use Rattle.compositions.specs.Composition.{Counting, Grading, PhaseKing, TurpinCoan, AsGraded}
 
 -- grading of the counting vote
 abbrev pub graded : (o : Over) → Composition o Graded
@@ -15,5 +16,5 @@ kings o (suc above) = PhaseKing (AsGraded (kings o above))
 abbrev pub king : (o : Over) → Composition o Full
 king o = kings o 0
 
-abbrev pub wide : Composition Given Full
-wide = TurpinCoan (graded Given) (king OnSwitch)
+abbrev pub multivalued : Composition Given Full
+multivalued = TurpinCoan (graded Given) (king OnSwitch)

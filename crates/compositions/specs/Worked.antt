@@ -18,7 +18,7 @@ use Rattle.values.specs.declared.switch.Switch.the-variants.{Hold, Go}
 use Rattle.values.specs.PointKind.{newPoint, pointWord, pointReads, restPoint}
 use Rattle.values.specs.SwitchKind.{switchKind}
 use Rattle.compositions.specs.Composition.{OnSwitch, protocol}
-use Rattle.compositions.specs.Named.{graded, kings, wide}
+use Rattle.compositions.specs.Named.{graded, kings, multivalued}
 
 -- a switch heard, or silence
 abbrev pub go : Option Switch
@@ -69,4 +69,4 @@ pub record Worked : Type 0 where
   pub fourth-king : protocol switchKind (kings OnSwitch 3) .rounds 64 21 ≡ 65536
   pub fourth-king-refused : refused (protocol switchKind (kings OnSwitch 3)) (station 64 21 0) ≡ Some Rounds
   -- values decided by a phase king on the switch: 2 rounds and 2 phases of 3
-  pub wide-of-four : protocol switchKind wide .rounds 4 1 ≡ 8
+  pub multivalued-of-four : protocol switchKind multivalued .rounds 4 1 ≡ 8

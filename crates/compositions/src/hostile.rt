@@ -3,7 +3,7 @@
 #[cfg(test)]
 mod tests {
     use crate::King;
-    use crate::Wide;
+    use crate::Multivalued;
     use crate::adversary::tests::CASES;
     use crate::adversary::tests::Case;
     use counting::Count;
@@ -194,8 +194,8 @@ mod tests {
             second: Point::new(2500, 1500)?,
             until: 2,
         };
-        let mut machines = [Wide::<Point>::begin(FOUR, Point::rest()); 64];
-        check(all_full::<Point, Wide<Point>>(&mut machines, 64, sides))
+        let mut machines = [Multivalued::<Point>::begin(FOUR, Point::rest()); 64];
+        check(all_full::<Point, Multivalued<Point>>(&mut machines, 64, sides))
     }
 
     #[test]

@@ -1,6 +1,6 @@
 ghost use Rattle.protocol.specs.Laws.{FullLaw};
 ghost use Rattle.compositions.specs.Composition.{Given, protocol, Compositions};
-ghost use Rattle.compositions.specs.Named.{king, kings, wide};
+ghost use Rattle.compositions.specs.Named.{king, kings, multivalued};
 use counting::Count;
 use counting::CountMachine;
 use counting::CountWeak;
@@ -30,7 +30,7 @@ pub type King<V> = PhaseKing<Grading<Count<V>>>;
 pub type ThreeKings<V> = PhaseKing<AsGraded<PhaseKing<AsGraded<King<V>>>>>;
 
 /// Values of any kind, decided by a phase king on the switch.
-pub type Wide<V> = TurpinCoan<Grading<Count<V>>, King<Switch>>;
+pub type Multivalued<V> = TurpinCoan<Grading<Count<V>>, King<Switch>>;
 
 /// Every composition over a kind of values keeps the law that it promises.
 pub fn compositions_keep_their_laws<V: Value>()
@@ -55,8 +55,8 @@ pub fn three_kings_law<V: Value>()
 }
 
 /// And this one.
-pub fn wide_law<V: Value>()
-    ensures { λ _. ⌜ FullLaw (protocol (V·Value .kind) wide) ⌝ }
+pub fn multivalued_law<V: Value>()
+    ensures { λ _. ⌜ FullLaw (protocol (V·Value .kind) multivalued) ⌝ }
 {
-    Wide::<V>::full_law();
+    Multivalued::<V>::full_law();
 }

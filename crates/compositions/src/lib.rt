@@ -11,12 +11,12 @@ mod runs;
 mod steps;
 
 pub use laws::King;
+pub use laws::Multivalued;
 pub use laws::ThreeKings;
-pub use laws::Wide;
 pub use laws::compositions_keep_their_laws;
 pub use laws::king_law;
+pub use laws::multivalued_law;
 pub use laws::three_kings_law;
-pub use laws::wide_law;
 
 /// The worked cases hold of the definitions.
 pub fn worked_cases()

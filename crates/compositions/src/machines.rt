@@ -3,8 +3,8 @@
 #[cfg(test)]
 mod tests {
     use crate::King;
+    use crate::Multivalued;
     use crate::ThreeKings;
-    use crate::Wide;
     use counting::Count;
     use counting::CountMachine;
     use counting::CountWeak;
@@ -59,7 +59,7 @@ mod tests {
         stays_idle(&mut Count::<Switch>::begin(Setup { n, t, own }, Switch::Go))
             && stays_idle(&mut Grading::<Count<Switch>>::begin(Setup { n, t, own }, Switch::Go))
             && stays_idle(&mut King::<Switch>::begin(Setup { n, t, own }, Switch::Go))
-            && stays_idle(&mut Wide::<Switch>::begin(Setup { n, t, own }, Switch::Go))
+            && stays_idle(&mut Multivalued::<Switch>::begin(Setup { n, t, own }, Switch::Go))
     }
 
     // One that votes says its entry's word, and answers once it has heard a row.
@@ -108,7 +108,7 @@ mod tests {
         check(ends_after(&mut Count::<Switch>::begin(four, Switch::Go), 1, 1))?;
         check(ends_after(&mut Grading::<Count<Switch>>::begin(four, Switch::Go), 2, 1))?;
         check(ends_after(&mut King::<Switch>::begin(four, Switch::Go), 6, 1))?;
-        check(ends_after(&mut Wide::<Switch>::begin(four, Switch::Go), 8, 1))?;
+        check(ends_after(&mut Multivalued::<Switch>::begin(four, Switch::Go), 8, 1))?;
         check(ends_after(&mut AsGraded::<King<Switch>>::begin(four, Switch::Go), 6, 1))?;
         check(ends_after(&mut King::<Switch>::begin(LARGEST, Switch::Go), 66, 1))
     }
@@ -141,7 +141,7 @@ mod tests {
     #[test]
     fn a_machine_is_small() -> Result<(), Fail> {
         check(size_of::<Count<Point>>() <= 64)?;
-        check(size_of::<Wide<Point>>() <= 256)?;
+        check(size_of::<Multivalued<Point>>() <= 256)?;
         check(size_of::<ThreeKings<Point>>() <= 1024)
     }
 

@@ -3,7 +3,7 @@
 #[cfg(test)]
 mod tests {
     use crate::King;
-    use crate::Wide;
+    use crate::Multivalued;
     use counting::Count;
     use counting::CountMachine;
     use counting::CountWeak;
@@ -56,7 +56,7 @@ mod tests {
 
     // What station 2 answers that entered a point, after the two rounds on points and six equal rows on the switch.
     fn decided(point: Point, rows: &[[u64; 4]], switch: [u64; 4]) -> Option<Point> {
-        let mut machine = Wide::<Point>::begin(of_four(2), point);
+        let mut machine = Multivalued::<Point>::begin(of_four(2), point);
         hear_all(&mut machine, rows);
         for _ in 0..6 {
             machine.hear(&switch);

@@ -1,4 +1,4 @@
--- Grading over a weak vote is orderly and keeps the graded law.
+-- Grading over a weak vote: its rule, that it is orderly, and the graded law.
 use mathlib.Core.Path.{_≡_, refl, sym, _∙_, ap, subst⁻¹}
 use mathlib.Core.Bool.{Bool, true}
 use mathlib.Core.Logic.{⊎-elim}
@@ -6,7 +6,7 @@ use mathlib.Core.List.{List}
 use Prim.Native.Nat.{ℕ, suc, _+_, _-_, _*_, _≤_, _<_}
 use native.Mathlib.Omega.{arith}
 use lib.Dec.{leb}
-use Rattle.std.proofs.shelf.Tests.{cases-lt, leb-true, le-leb}
+use Rattle.std.proofs.shelf.Tests.{cases-lt, leb-true, le-leb, lt-leb}
 use Rattle.std.specs.declared.option.Option.{Option}
 use Rattle.std.specs.declared.option.Option.the-variants.{Some, None}
 use Rattle.protocol.specs.declared.setup.Setup.{Setup}
@@ -27,9 +27,24 @@ use Rattle.protocol.proofs.RunLaw.{answers, only-answer}
 use Rattle.counting.specs.declared.grading.Grading.{Grading}
 use Rattle.counting.specs.declared.grading.Grading.the-variants.{Idle, Voting, Polling, Answered}
 use Rattle.counting.specs.Grading.{grading, graded, gradingHeard, gradingSaid, gradingAnswer}
-use Rattle.counting.specs.Leader.{leader}
-use Rattle.counting.proofs.LeaderLaw.{leader-same, leader-leads}
+use Rattle.counting.specs.GradeRule.{GradeRule, polled}
+use Rattle.counting.specs.Leader.{view, leader, Leads}
+use Rattle.counting.proofs.LeaderLaw.{leader-same, leader-leads, leads-only}
 use Rattle.counting.proofs.MajorityLaw.{majority-is-leader, most-is-leader}
+
+module _ {V : Type 0} (K : Kind V) (lawful : Lawful K) (W : Protocol V (Option V)) where
+  pub grading-rule : GradeRule K W
+  grading-rule = record {
+    sure = λ s word row v c leads l. answer s word row (v, c) leads ∙ ap (λ g. Some (v, g)) (le-leb _ c l);
+    unsure = λ s word row v c leads l. answer s word row (v, c) leads ∙ ap (λ g. Some (v, g)) (lt-leb _ c l);
+  }
+    where
+      answer : (s : Setup) (word : ℕ) (row : List ℕ) (best : V × ℕ) → Leads K (view s word row) (s .n) best →
+          polled K W s word row ≡ Some (best .0, leb (s .n - s .t) (best .1))
+      answer s word row best leads =
+          let e = leads-only K lawful (view s word row) (s .n) _ _ (leader-leads K lawful (view s word row) (s .n)) leads in
+          ap (λ b. gradingAnswer K W (graded K W (s .n - s .t) b)) e ∙
+          ap (λ v. Some (v, leb (s .n - s .t) (best .1))) (value-word K lawful (best .0))
 
 module _ {V : Type 0} (K : Kind V) (W : Protocol V (Option V)) (orderly : Orderly W) where
   abbrev L : Protocol V (V × Bool)
@@ -119,14 +134,14 @@ module _ {V : Type 0} (K : Kind V) (W : Protocol V (Option V)) (orderly : Orderl
     abbrev round : ℕ
     round = W .rounds n t
 
-    abbrev view : (i j : ℕ) → ℕ
-    view = readIn R round
+    abbrev heard : (i j : ℕ) → ℕ
+    heard = readIn R round
 
     -- the leader of the row that station i reads in the poll
     abbrev best : (i : ℕ) → V × ℕ
-    best i = leader K (view i) n
+    best i = leader K (heard i) n
 
-    exactly : (i j : ℕ) → Correct R i → Correct R j → view i j ≡ saidIn R round j
+    exactly : (i j : ℕ) → Correct R i → Correct R j → heard i j ≡ saidIn R round j
     exactly = read-exact R round (omega (arith, last (R .takes)))
 
     tells : (j : ℕ) (answer : Option V) → Correct R j → answered weak j ≡ Some answer →
@@ -149,28 +164,28 @@ module _ {V : Type 0} (K : Kind V) (W : Protocol V (Option V)) (orderly : Orderl
     valid : (v : V) → Unanimous R v → (i : ℕ) → Correct R i → answered R i ≡ Some (v, true)
     valid v all i c =
         let third = R .takes .third in
-        let many = quorum n t (R .correct) (R .few-faulty) (saidIn R round) view exactly (K .word v)
+        let many = quorum n t (R .correct) (R .few-faulty) (saidIn R round) heard exactly (K .word v)
         (λ j d. tells j (Some v) d (law .validity n t weak v all j d)) i c in
-        ends-with i v (places (view i) (K .word v) n) c
-        (majority-is-leader K lawful (view i) n (v, places (view i) (K .word v) n) refl (omega arith)) ∙
-        ap (λ g. Some (v, g)) (le-leb (n - t) (places (view i) (K .word v) n) (omega arith))
+        ends-with i v (places (heard i) (K .word v) n) c
+        (majority-is-leader K lawful (heard i) n (v, places (heard i) (K .word v) n) refl (omega arith)) ∙
+        ap (λ g. Some (v, g)) (le-leb (n - t) (places (heard i) (K .word v) n) (omega arith))
 
     -- a value with grade 1 at one correct station has n - t places there
     has-quorum : (i : ℕ) (v : V) → Correct R i → answered R i ≡ Some (v, true) →
-        n ≤ places (view i) (K .word v) n + t
+        n ≤ places (heard i) (K .word v) n + t
     has-quorum i v c e =
         let same = only-answer (ends i c) e in
         let l = leb-true (n - t) (best i .1) (ap (λ (b : V × Bool). b .1) same) in
-        let p = leader-leads K lawful (view i) n .has-places in
-        let q : places (view i) (K .word (best i .0)) n ≡ places (view i) (K .word v) n =
-        ap (λ (b : V × Bool). places (view i) (K .word (b .0)) n) same in
+        let p = leader-leads K lawful (heard i) n .has-places in
+        let q : places (heard i) (K .word (best i .0)) n ≡ places (heard i) (K .word v) n =
+        ap (λ (b : V × Bool). places (heard i) (K .word (b .0)) n) same in
         omega arith
 
     -- some correct station got it from the weak vote
-    weak-answer : (i : ℕ) (v : V) → Correct R i → t < places (view i) (K .word v) n →
+    weak-answer : (i : ℕ) (v : V) → Correct R i → t < places (heard i) (K .word v) n →
         (k : ℕ) × Correct R k × (answered weak k ≡ Some (Some v))
     weak-answer i v c more =
-        let f = backed n t (R .correct) (R .few-faulty) (saidIn R round) view exactly (K .word v) i c more in
+        let f = backed n t (R .correct) (R .few-faulty) (saidIn R round) heard exactly (K .word v) i c more in
         let o = answers orderly weak (f .0) (f .1 .0) in
         let e = told-value K lawful (o .0) v (sym (tells (f .0) (o .0) (f .1) (o .1)) ∙ f .2) in
         (f .0, f .1, o .1 ∙ ap Some e)
@@ -179,25 +194,25 @@ module _ {V : Type 0} (K : Kind V) (W : Protocol V (Option V)) (orderly : Orderl
         (g : Bool) × (answered R j ≡ Some (v, g))
     consistent v i j c d e = (
       _,
-      ends-with j v (places (view j) (K .word v) n) d
-          (most-is-leader K lawful (view j) n v (omega (arith, third, many, carries))
+      ends-with j v (places (heard j) (K .word v) n) d
+          (most-is-leader K lawful (heard j) n v (omega (arith, third, many, carries))
           (λ u differ. omega (arith, third, many, carries, few u differ))),
     )
       where
         third : 3 * t < n
         third = R .takes .third
 
-        many : n ≤ places (view i) (K .word v) n + t
+        many : n ≤ places (heard i) (K .word v) n + t
         many = has-quorum i v c e
 
-        carries : places (view i) (K .word v) n ≤ places (view j) (K .word v) n + t
-        carries = carried n t (R .correct) (R .few-faulty) (saidIn R round) view exactly (K .word v) i j c d
+        carries : places (heard i) (K .word v) n ≤ places (heard j) (K .word v) n + t
+        carries = carried n t (R .correct) (R .few-faulty) (saidIn R round) heard exactly (K .word v) i j c d
 
         -- so no correct station tells another value, and none has more than t places
-        few : (u : V) → (K .word u ≡ K .word v → ⊥) → places (view j) (K .word u) n ≤ t
+        few : (u : V) → (K .word u ≡ K .word v → ⊥) → places (heard j) (K .word u) n ≤ t
         few u differ =
             let f = weak-answer i v c (omega (arith, third, many)) in
-            minority n t (R .correct) (R .few-faulty) (saidIn R round) view exactly (K .word u)
+            minority n t (R .correct) (R .few-faulty) (saidIn R round) heard exactly (K .word u)
             (λ k h told. ⊎-elim
             (λ a. differ (sym told ∙ tells k (Some v) h a))
             (λ a. silent-word K lawful u (sym told ∙ tells k None h a))

@@ -3,3 +3,4 @@ pub mod Majority
 pub mod Counting
 pub mod QuorumRule
 pub mod Grading
+pub mod GradeRule

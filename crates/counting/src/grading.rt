@@ -1,5 +1,6 @@
 ghost use mathlib.Core.Path.{_≡_};
 ghost use Rattle.protocol.specs.Kind.{wordOf};
+ghost use Rattle.counting.specs.GradeRule.{GradeRule};
 ghost use Rattle.counting.specs.Grading.{grading, gradingState};
 use crate::tally::leader;
 use protocol::GradedVote;
@@ -91,10 +92,7 @@ pub impl<W: WeakVote> Machine for Grading<W> as GradingMachine {
 
     fn answer(&self) -> Option<(W::Value, bool)> {
         match self {
-            Grading::Answered { word, grade } => {
-                let value = W::Value::read(*word).unwrap_or(W::Value::rest());
-                Some((value, *grade))
-            }
+            Grading::Answered { word, grade } => Some((W::Value::read_or_rest(*word), *grade)),
             _ => None,
         }
     }
@@ -110,3 +108,8 @@ pub impl<W: WeakVote> GradedVote for Grading<W> as GradingGraded {
         W::weak_law();
     }
 }
+
+/// Grading answers the value that leads the row as read, with grade 1 exactly if it has at least n - t of the n places.
+pub fn grade_rule<W: WeakVote>()
+    ensures { λ _. ⌜ GradeRule (Value·Value .kind) (W·Machine .model) ⌝ }
+{}

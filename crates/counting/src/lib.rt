@@ -12,4 +12,5 @@ pub use count::quorum_rule;
 pub use grading::Grading;
 pub use grading::GradingGraded;
 pub use grading::GradingMachine;
+pub use grading::grade_rule;
 pub use tally::leader;

@@ -27,7 +27,8 @@ use Rattle.protocol.proofs.RowLaw.{saidIn, readIn, read-exact}
 use Rattle.protocol.proofs.RunLaw.{answers, only-answer}
 use Rattle.layers.specs.declared.phase_king.PhaseKing.{PhaseKing}
 use Rattle.layers.specs.declared.phase_king.PhaseKing.the-variants.{Idle, Voting, KingRound, Answered}
-use Rattle.layers.specs.PhaseKing.{kingWord, afterKing, phaseKing, phaseBegun, phaseEnded, kingHeard, kingSaid, kingAnswer}
+use Rattle.layers.specs.PhaseKing.{kingWord, afterKing, phaseKing, phaseBegun}
+use Rattle.layers.specs.PhaseKing.{phaseEnded, kingHeard, kingSaid, kingAnswer}
 
 module _ {V : Type 0} (K : Kind V) (G : Protocol V (V × Bool)) (orderly : Orderly G) where
   abbrev L : Protocol V V

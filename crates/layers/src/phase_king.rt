@@ -54,7 +54,7 @@ fn after_king<V: Value>(setup: Setup, phase: usize, word: u64, grade: bool, row:
 {
     let king = heard_at(setup.own, king_word(setup, phase, word), row, phase);
     let word = if grade { word } else { king };
-    V::read(word).unwrap_or(V::rest())
+    V::read_or_rest(word)
 }
 
 pub impl<G: GradedVote> Machine for PhaseKing<G> as PhaseKingMachine {
@@ -143,9 +143,7 @@ pub impl<G: GradedVote> Machine for PhaseKing<G> as PhaseKingMachine {
 
     fn answer(&self) -> Option<G::Value> {
         match self {
-            PhaseKing::Answered { word } => {
-                Some(G::Value::read(*word).unwrap_or(G::Value::rest()))
-            }
+            PhaseKing::Answered { word } => Some(G::Value::read_or_rest(*word)),
             _ => None,
         }
     }

@@ -101,9 +101,7 @@ pub impl<G: GradedVote, B: FullVote + Machine<Value = Switch>> Machine for Turpi
 
     fn answer(&self) -> Option<G::Value> {
         match self {
-            TurpinCoan::Answered { word } => {
-                Some(G::Value::read(*word).unwrap_or(G::Value::rest()))
-            }
+            TurpinCoan::Answered { word } => Some(G::Value::read_or_rest(*word)),
             _ => None,
         }
     }

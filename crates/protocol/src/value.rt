@@ -1,5 +1,5 @@
 ghost use mathlib.Core.Path.{_≡_};
-ghost use Rattle.protocol.specs.Kind.{Kind, Lawful};
+ghost use Rattle.protocol.specs.Kind.{Kind, Lawful, valueOf};
 
 /// A kind of value that stations vote on.
 pub trait Value: Copy {
@@ -14,6 +14,13 @@ pub trait Value: Copy {
     /// The value that a word stands for, if any.
     fn read(word: u64) -> Option<Self>
         ensures { λ r. ⌜ r ≡ kind .reads word ⌝ };
+
+    /// The value that a word stands for, or rest.
+    fn read_or_rest(word: u64) -> Self
+        ensures { λ r. ⌜ r ≡ valueOf kind word ⌝ }
+    {
+        Self::read(word).unwrap_or(Self::rest())
+    }
 
     /// The order of the values; of two different ones exactly one is less.
     fn less(self, other: Self) -> bool

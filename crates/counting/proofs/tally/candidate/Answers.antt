@@ -3,7 +3,8 @@ use native.Mathlib.Omega.{arith}
 use Rattle.counting.specs.Leader.{view}
 use Rattle.counting.proofs.MajorityLaw.{new-lead, more-lead, less-lead, only-candidate}
 use Rattle.counting.proofs.tally.candidate.Needs as need
-use Rattle.counting.proofs.tally.candidate.Needs.{then-lead-eq0, else-lead-eq0·then-heard-word, else-lead-eq0·else-heard-word}
+use Rattle.counting.proofs.tally.candidate.Needs.{then-lead-eq0, else-lead-eq0·then-heard-word}
+use Rattle.counting.proofs.tally.candidate.Needs.{else-lead-eq0·else-heard-word}
 
 pub loop-j-again : need.loop-j-again
 loop-j-again c =

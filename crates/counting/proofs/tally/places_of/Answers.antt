@@ -6,7 +6,8 @@ use Rattle.counting.specs.Leader.{view}
 use Rattle.counting.proofs.PassLaw.{place-matches, place-differs, read-front, Ends, past-end-counts}
 use Rattle.counting.proofs.tally.places_of.Given as given
 use Rattle.counting.proofs.tally.places_of.Needs as need
-use Rattle.counting.proofs.tally.places_of.Needs.{After-loop-j, then-j-setup, else-j-setup, then-w-word, else-w-word, else-heard-setup·by·then-heard-setup·then-setup·else-said-word, else-heard-setup·by·then-heard-setup·else-setup, else-heard-setup·by·else-heard-setup}
+use Rattle.counting.proofs.tally.places_of.Needs.{After-loop-j, then-j-setup, else-j-setup, then-w-word}
+use Rattle.counting.proofs.tally.places_of.Needs.{else-w-word, else-heard-setup·by·then-heard-setup·then-setup·else-said-word, else-heard-setup·by·then-heard-setup·else-setup, else-heard-setup·by·else-heard-setup}
 
 pub loop-j-again : need.loop-j-again
 loop-j-again g c =
