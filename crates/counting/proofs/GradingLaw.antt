@@ -42,7 +42,8 @@ module _ {V : Type 0} (K : Kind V) (lawful : Lawful K) (W : Protocol V (Option V
       answer : (s : Setup) (word : ℕ) (row : List ℕ) (best : V × ℕ) → Leads K (view s word row) (s .n) best →
           polled K W s word row ≡ Some (best .0, leb (s .n - s .t) (best .1))
       answer s word row best leads =
-          let e = leads-only K lawful (view s word row) (s .n) _ _ (leader-leads K lawful (view s word row) (s .n)) leads in
+          let e = leads-only K lawful (view s word row) (s .n) _ best (leader-leads K lawful (view s word row) (s .n))
+          leads in
           ap (λ b. gradingAnswer K W (graded K W (s .n - s .t) b)) e ∙
           ap (λ v. Some (v, leb (s .n - s .t) (best .1))) (value-word K lawful (best .0))
 
