@@ -45,7 +45,8 @@ mod tests {
     };
 
     // An idle machine is silent, and no row gives it an answer.
-    fn stays_idle<M: Machine>(machine: &mut M) -> bool {
+    fn idle<M: Machine<Value = Switch>>(setup: Setup) -> bool {
+        let mut machine = M::begin(setup, Switch::Go);
         for _ in 0..9 {
             if machine.say() != SILENT || machine.answer().is_some() {
                 return false;
@@ -56,10 +57,11 @@ mod tests {
     }
 
     fn is_idle(n: usize, t: usize, own: usize) -> bool {
-        stays_idle(&mut Count::<Switch>::begin(Setup { n, t, own }, Switch::Go))
-            && stays_idle(&mut Grading::<Count<Switch>>::begin(Setup { n, t, own }, Switch::Go))
-            && stays_idle(&mut King::<Switch>::begin(Setup { n, t, own }, Switch::Go))
-            && stays_idle(&mut Multivalued::<Switch>::begin(Setup { n, t, own }, Switch::Go))
+        let setup = Setup { n, t, own };
+        idle::<Count<Switch>>(setup)
+            && idle::<Grading<Count<Switch>>>(setup)
+            && idle::<King<Switch>>(setup)
+            && idle::<Multivalued<Switch>>(setup)
     }
 
     // One that votes says its entry's word, and answers once it has heard a row.
@@ -85,13 +87,14 @@ mod tests {
         check(is_idle(usize::MAX, usize::MAX, usize::MAX)).note("the largest numbers")
     }
 
-    // A machine that has its answer after as many rounds and no sooner, and then is deaf and silent.
-    fn ends_after<M: Machine<Value = Switch>>(machine: &mut M, rounds: usize, first: u64) -> bool {
+    // A machine has its answer after as many rounds and no sooner, and then is silent, whatever it hears.
+    fn ends_after<M: Machine<Value = Switch>>(setup: Setup, rounds: usize) -> bool {
+        let mut machine = M::begin(setup, Switch::Go);
         for k in 0..rounds {
-            if machine.answer().is_some() || (k == 0 && machine.say() != first) {
+            if machine.answer().is_some() || (k == 0 && machine.say() != 1) {
                 return false;
             }
-            machine.hear(&[first; 64]);
+            machine.hear(&[1; 64]);
         }
         for _ in 0..9 {
             if machine.answer().is_none() || machine.say() != SILENT {
@@ -105,12 +108,12 @@ mod tests {
     #[test]
     fn answers_come_with_the_last_round() -> Result<(), Fail> {
         let four = Setup { n: 4, t: 1, own: 2 };
-        check(ends_after(&mut Count::<Switch>::begin(four, Switch::Go), 1, 1))?;
-        check(ends_after(&mut Grading::<Count<Switch>>::begin(four, Switch::Go), 2, 1))?;
-        check(ends_after(&mut King::<Switch>::begin(four, Switch::Go), 6, 1))?;
-        check(ends_after(&mut Multivalued::<Switch>::begin(four, Switch::Go), 8, 1))?;
-        check(ends_after(&mut AsGraded::<King<Switch>>::begin(four, Switch::Go), 6, 1))?;
-        check(ends_after(&mut King::<Switch>::begin(LARGEST, Switch::Go), 66, 1))
+        check(ends_after::<Count<Switch>>(four, 1))?;
+        check(ends_after::<Grading<Count<Switch>>>(four, 2))?;
+        check(ends_after::<King<Switch>>(four, 6))?;
+        check(ends_after::<King<Switch>>(LARGEST, 66))?;
+        check(ends_after::<Multivalued<Switch>>(four, 8))?;
+        check(ends_after::<AsGraded<King<Switch>>>(four, 6))
     }
 
     #[test]

@@ -34,34 +34,42 @@ mod tests {
         Setup { n: 4, t: 1, own }
     }
 
-    fn hear_all<M: Machine>(machine: &mut M, rows: &[[u64; 4]]) {
+    // A station that has entered a value and heard some rows.
+    fn after<V: Value, M: Machine<Value = V>>(own: usize, entry: V, rows: &[[u64; 4]]) -> M {
+        let mut machine = M::begin(of_four(own), entry);
         for row in rows.iter() {
             machine.hear(row);
         }
+        machine
+    }
+
+    fn said<V: Value, M: Machine<Value = V>>(own: usize, entry: V, rows: &[[u64; 4]]) -> u64 {
+        after::<V, M>(own, entry, rows).say()
+    }
+
+    fn answered<V: Value, M: Machine<Value = V>>(
+        own: usize,
+        entry: V,
+        rows: &[[u64; 4]],
+    ) -> Option<M::Answer> {
+        after::<V, M>(own, entry, rows).answer()
     }
 
     // What station `own` answers that grades a counting vote.
     fn graded(own: usize, entry: Switch, rows: &[[u64; 4]]) -> Option<(Switch, bool)> {
-        let mut machine = Grading::<Count<Switch>>::begin(of_four(own), entry);
-        hear_all(&mut machine, rows);
-        machine.answer()
+        answered::<Switch, Grading<Count<Switch>>>(own, entry, rows)
     }
 
     // What station `own` says after some rounds of a phase king.
     fn king_says(own: usize, entry: Switch, rows: &[[u64; 4]]) -> u64 {
-        let mut machine = King::<Switch>::begin(of_four(own), entry);
-        hear_all(&mut machine, rows);
-        machine.say()
+        said::<Switch, King<Switch>>(own, entry, rows)
     }
 
-    // What station 2 answers that entered a point, after the two rounds on points and six equal rows on the switch.
-    fn decided(point: Point, rows: &[[u64; 4]], switch: [u64; 4]) -> Option<Point> {
-        let mut machine = Multivalued::<Point>::begin(of_four(2), point);
-        hear_all(&mut machine, rows);
-        for _ in 0..6 {
-            machine.hear(&switch);
-        }
-        machine.answer()
+    // What station 2 answers that entered a point, after two rounds on points and six equal rows on the switch.
+    fn decided(point: Point, points: [[u64; 4]; 2], switch: [u64; 4]) -> Option<Point> {
+        let [a, b] = points;
+        let s = switch;
+        answered::<Point, Multivalued<Point>>(2, point, &[a, b, s, s, s, s, s, s])
     }
 
     #[test]
@@ -142,15 +150,12 @@ mod tests {
         let other = Point::new(2500, -1500)?;
         let w = point.word();
         let sure = [[w, w, w, MUTE], [w, w, w, MUTE]];
-        check_eq(decided(point, &sure, [1, 1, MUTE, 1]), Some(point))?;
-        check_eq(decided(point, &sure, [0, 0, MUTE, 0]), Some(Point::rest())).note("three hold")?;
+        check_eq(decided(point, sure, [1, 1, MUTE, 1]), Some(point))?;
+        check_eq(decided(point, sure, [0, 0, MUTE, 0]), Some(Point::rest())).note("three hold")?;
         let unsure = [[w, w, MUTE, MUTE], [w, w, w, MUTE]];
-        check_eq(decided(other, &unsure, [1, 1, MUTE, 1]), Some(point)).note(
+        check_eq(decided(other, unsure, [1, 1, MUTE, 1]), Some(point)).note(
             "go with grade 0 takes the leader",
         )?;
-        check_eq(
-            decided(other, &unsure, [0, 0, MUTE, 0]),
-            Some(Point::rest()),
-        )
+        check_eq(decided(other, unsure, [0, 0, MUTE, 0]), Some(Point::rest()))
     }
 }
