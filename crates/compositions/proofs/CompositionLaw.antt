@@ -4,9 +4,9 @@ use Rattle.protocol.specs.Orderly.{Orderly}
 use Rattle.values.specs.SwitchKind.{switchKind}
 use Rattle.counting.proofs.CountLaw.{counting-orderly, counting-weak}
 use Rattle.counting.proofs.GradingLaw.{grading-orderly, grading-graded}
-use Rattle.layers.proofs.PhaseKingLaw.{king-orderly, king-full}
-use Rattle.layers.proofs.TurpinCoanLaw.{tc-orderly, tc-full}
-use Rattle.layers.proofs.StepDownLaw.{answering-orderly, stepdown-weak, stepdown-graded}
+use Rattle.phase_king.proofs.PhaseKingLaw.{king-orderly, king-full}
+use Rattle.turpin_coan.proofs.TurpinCoanLaw.{tc-orderly, tc-full}
+use Rattle.step_down.proofs.StepDownLaw.{answering-orderly, stepdown-weak, stepdown-graded}
 use Rattle.compositions.specs.Composition.{Over, Given, OnSwitch, Promise, Composition, Counting, Grading, PhaseKing}
 use Rattle.compositions.specs.Composition.{TurpinCoan, AsWeak, AsGraded, kindOf, protocol, Law, Compositions}
 

@@ -9,9 +9,9 @@ use Rattle.values.specs.declared.switch.Switch.{Switch}
 use Rattle.values.specs.SwitchKind.{switchKind}
 use Rattle.counting.specs.Counting.{counting}
 use Rattle.counting.specs.Grading.{grading}
-use Rattle.layers.specs.PhaseKing.{phaseKing}
-use Rattle.layers.specs.TurpinCoan.{turpinCoan}
-use Rattle.layers.specs.StepDown.{asWeak, asGraded}
+use Rattle.phase_king.specs.PhaseKing.{phaseKing}
+use Rattle.turpin_coan.specs.TurpinCoan.{turpinCoan}
+use Rattle.step_down.specs.StepDown.{asWeak, asGraded}
 
 -- what is voted on: values of a given kind, or the switch
 pub data Over : Type 0 where

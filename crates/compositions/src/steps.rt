@@ -10,15 +10,15 @@ mod tests {
     use counting::Grading;
     use counting::GradingGraded;
     use counting::GradingMachine;
-    use layers::PhaseKingFull;
-    use layers::PhaseKingMachine;
-    use layers::TurpinCoanMachine;
+    use phase_king::PhaseKingFull;
+    use phase_king::PhaseKingMachine;
     use protocol::Machine;
     use protocol::RefusalDebug;
     use protocol::SILENT;
     use protocol::Setup;
     use protocol::Value;
     use std::test::*;
+    use turpin_coan::TurpinCoanMachine;
     use values::Point;
     use values::PointDebug;
     use values::PointPartialEq;

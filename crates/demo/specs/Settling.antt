@@ -7,8 +7,8 @@ use Rattle.protocol.specs.Kind.{Kind}
 use Rattle.protocol.specs.Protocol.{Protocol}
 use Rattle.counting.specs.Counting.{counting}
 use Rattle.counting.specs.Grading.{grading}
-use Rattle.layers.specs.PhaseKing.{phaseKing}
-use Rattle.layers.specs.TurpinCoan.{turpinCoan}
+use Rattle.phase_king.specs.PhaseKing.{phaseKing}
+use Rattle.turpin_coan.specs.TurpinCoan.{turpinCoan}
 use Rattle.values.specs.declared.point.Point.{Point}
 use Rattle.values.specs.PointKind.{pointKind}
 use Rattle.values.specs.SwitchKind.{switchKind}

@@ -1,3 +1,0 @@
-pub mod PhaseKingLaw
-pub mod TurpinCoanLaw
-pub mod StepDownLaw

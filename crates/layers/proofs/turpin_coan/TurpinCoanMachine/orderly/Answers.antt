@@ -1,7 +1,0 @@
-use Rattle.layers.proofs.TurpinCoanLaw.{tc-orderly}
-use Rattle.layers.proofs.turpin_coan.TurpinCoanMachine.orderly.Needs as need
-
-pub returns : need.returns
-returns g c =
-    tc-orderly (g .Value·Value .kind) (g .G·Machine .model) (c .orderly .ensures) (g .B·Machine .model)
-    (c .orderly-2 .ensures)

@@ -1,3 +1,0 @@
-pub mod PhaseKing
-pub mod TurpinCoan
-pub mod StepDown
