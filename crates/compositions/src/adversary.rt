@@ -4,7 +4,7 @@
 pub mod tests {
     use protocol::SILENT;
 
-    // Which t stations are faulty: the first ones are kings.
+    // Which stations are faulty: the first ones are kings.
     #[derive(Clone, Copy)]
     pub enum Who {
         First,
@@ -27,6 +27,7 @@ pub mod tests {
     pub struct Case {
         pub n: usize,
         pub t: usize,
+        pub faulty: usize,
         pub who: Who,
         pub style: Style,
         pub many: usize,
@@ -35,8 +36,9 @@ pub mod tests {
     pub const CASES: usize = 90;
 
     impl Case {
-        // Every station set with every style, with no, half and all stations on one side, and at the quorum's edge.
-        pub fn numbered(n: usize, index: usize) -> Case {
+        // As many faulty stations as may be, and some extra ones. Every set of them meets every style, with no, half and
+        // all stations on one side, and at the quorum's edge.
+        pub fn numbered(n: usize, extra: usize, index: usize) -> Case {
             let t = n.saturating_sub(1) / 3;
             let quorum = n.saturating_sub(t);
             let who = match index % 3 {
@@ -62,6 +64,7 @@ pub mod tests {
             Case {
                 n,
                 t,
+                faulty: t.saturating_add(extra),
                 who,
                 style,
                 many,
@@ -70,9 +73,9 @@ pub mod tests {
 
         pub fn is_faulty(self, j: usize) -> bool {
             match self.who {
-                Who::First => j < self.t,
-                Who::Last => self.n.saturating_sub(self.t) <= j,
-                Who::EveryThird => j % 3 == 1 && j / 3 < self.t,
+                Who::First => j < self.faulty,
+                Who::Last => self.n.saturating_sub(self.faulty) <= j,
+                Who::EveryThird => j % 3 == 1 && j / 3 < self.faulty,
             }
         }
 

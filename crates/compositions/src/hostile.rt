@@ -147,14 +147,15 @@ mod tests {
         true
     }
 
-    // All cases of 4, 7, 10 and 64 stations, up to a largest number.
+    // All cases of 4, 7, 10 and 64 stations, up to a largest number, with some faulty stations too many.
     fn all_full<V: Value, M: FullVote + Machine<Value = V>>(
         machines: &mut [M],
         largest: usize,
+        extra: usize,
         sides: Sides<V>,
     ) -> bool {
         for number in 0..4 * CASES {
-            let case = Case::numbered(SIZES[number % 4], number / 4);
+            let case = Case::numbered(SIZES[number % 4], extra, number / 4);
             if case.n <= largest && !keeps_full_law::<V, M>(machines, case, sides) {
                 return false;
             }
@@ -167,7 +168,7 @@ mod tests {
         sides: Sides<V>,
     ) -> bool {
         for number in 0..4 * CASES {
-            let case = Case::numbered(SIZES[number % 4], number / 4);
+            let case = Case::numbered(SIZES[number % 4], 0, number / 4);
             if !keeps_graded_law::<V, M>(machines, case, sides) {
                 return false;
             }
@@ -184,7 +185,14 @@ mod tests {
     #[test]
     fn phase_king_keeps_its_law() -> Result<(), Fail> {
         let mut machines = [King::<Switch>::begin(FOUR, Switch::Hold); 64];
-        check(all_full::<Switch, King<Switch>>(&mut machines, 64, SWITCHES))
+        check(all_full::<Switch, King<Switch>>(&mut machines, 64, 0, SWITCHES))
+    }
+
+    // What the other tests look for can be seen: one faulty station more, and some run breaks the law.
+    #[test]
+    fn one_faulty_station_too_many_breaks_the_law() -> Result<(), Fail> {
+        let mut machines = [King::<Switch>::begin(FOUR, Switch::Hold); 64];
+        check(!all_full::<Switch, King<Switch>>(&mut machines, 4, 1, SWITCHES))
     }
 
     #[test]
@@ -195,7 +203,7 @@ mod tests {
             until: 2,
         };
         let mut machines = [Multivalued::<Point>::begin(FOUR, Point::rest()); 64];
-        check(all_full::<Point, Multivalued<Point>>(&mut machines, 64, sides))
+        check(all_full::<Point, Multivalued<Point>>(&mut machines, 64, 0, sides))
     }
 
     #[test]
@@ -208,6 +216,6 @@ mod tests {
     #[test]
     fn layers_on_layers_keep_their_law() -> Result<(), Fail> {
         let mut machines = [Deep::begin(FOUR, Switch::Hold); 64];
-        check(all_full::<Switch, Deep>(&mut machines, 10, SWITCHES))
+        check(all_full::<Switch, Deep>(&mut machines, 10, 0, SWITCHES))
     }
 }
