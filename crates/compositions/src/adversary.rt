@@ -36,8 +36,8 @@ pub mod tests {
     pub const CASES: usize = 90;
 
     impl Case {
-        // As many faulty stations as may be, and some extra ones. Every set of them meets every style, with no, half and
-        // all stations on one side, and at the quorum's edge.
+        // As many faulty stations as may be, and some extra ones. Every set of them meets every style, with no, half
+        // and all stations on one side, and at the quorum's edge.
         pub fn numbered(n: usize, extra: usize, index: usize) -> Case {
             let t = n.saturating_sub(1) / 3;
             let quorum = n.saturating_sub(t);
