@@ -216,6 +216,6 @@ mod tests {
     #[test]
     fn layers_on_layers_keep_their_law() -> Result<(), Fail> {
         let mut machines = [Deep::begin(FOUR, Switch::Hold); 64];
-        check(all_full::<Switch, Deep>(&mut machines, 10, 0, SWITCHES))
+        check(all_full::<Switch, Deep>(&mut machines, 64, 0, SWITCHES))
     }
 }

@@ -18,7 +18,7 @@ use Rattle.protocol.specs.Protocol.{Admitted, after}
 use Rattle.protocol.specs.Admission.{unlessRefused}
 use Rattle.protocol.specs.Run.{Run, Correct, Unanimous, answered, station}
 use Rattle.protocol.specs.Words.{silent, heardAt}
-use Rattle.protocol.proofs.AdmissionLaw.{not-refused}
+use Rattle.protocol.proofs.AdmissionLaw.{not-refused, station-admitted}
 use Rattle.protocol.proofs.KindLaw.{word-injective}
 use Rattle.protocol.proofs.PlacesLaw.{rivals}
 use Rattle.protocol.proofs.QuorumLaw.{quorum, carried}
@@ -124,7 +124,7 @@ module _ {V : Type 0} (K : Kind V) (lawful : Lawful K) where
 
   module _ (n t : ℕ) (R : Run (counting K) n t) where
     admitted : (i : ℕ) → i < n → Admitted (counting K) (station n t i)
-    admitted i l = record { takes = R .takes; own-number = l }
+    admitted i l = station-admitted (R .takes) l
 
     says : (j : ℕ) → j < n → saidIn R 0 j ≡ K .word (R .entry j)
     says j l = ap countSaid (begins K (station n t j) (R .entry j) (admitted j l))
