@@ -1,5 +1,7 @@
 //! Votes put together with kinds of value: their worked cases and tests of whole runs.
 
+#![tactic(auto)]
+
 ghost use Rattle.compositions.specs.Worked.{Worked};
 
 mod adversary;

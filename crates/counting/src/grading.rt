@@ -30,7 +30,7 @@ impl<W: WeakVote> Machine for Grading<W> {
 
     type Answer = (W::Value, bool);
 
-    ghost model = { grading Value-as-Value.kind W.Machine.model };
+    ghost model = { grading W.Value.kind W.Machine.model };
 
     ghost state = { grading_state W.Machine.state };
 
@@ -106,5 +106,5 @@ impl<W: WeakVote> GradedVote for Grading<W> {
 
 /// Grading answers the value that leads the row as read, with grade 1 exactly if it has at least n - t of the n places.
 pub fn grade_rule<W: WeakVote>()
-    ensures { GradeRule Value-as-Value.kind W.Machine.model }
+    ensures { GradeRule W.Value.kind W.Machine.model }
 {}

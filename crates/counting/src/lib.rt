@@ -1,5 +1,7 @@
 //! Counting the places of a row, and the two votes that are made of it: the counting vote and grading.
 
+#![tactic(auto)]
+
 mod count;
 mod grading;
 mod tally;

@@ -1,5 +1,7 @@
 //! Four stations settle an operating point; one is faulty, tells every other one something else and is king once.
 
+#![tactic(auto)]
+
 mod scene;
 mod vote;
 

@@ -1,5 +1,7 @@
 //! Exponential information gathering (EIG): a full vote on the switch for few stations, in t + 1 rounds.
 
+#![tactic(auto)]
+
 ghost use Rattle.eig.specs.Numbering.{Numbering};
 
 /// The chains of one length are numbered from 0, ascending by first station, then second.

@@ -1,5 +1,7 @@
 //! Phase king: a full vote over any graded vote.
 
+#![tactic(auto)]
+
 ghost use Rattle.std.specs.Prelude.{◌≡◌, ◌+◌, ◌*◌};
 ghost use Rattle.protocol.specs.Protocol.{saturated};
 ghost use Rattle.phase_king.specs.PhaseKing.{king_word, after_king, phase_king, king_state};
@@ -57,7 +59,7 @@ impl<G: GradedVote> Machine for PhaseKing<G> {
 
     type Answer = G::Value;
 
-    ghost model = { phase_king Value-as-Value.kind G.Machine.model };
+    ghost model = { phase_king G.Value.kind G.Machine.model };
 
     ghost state = { king_state G.Machine.state };
 

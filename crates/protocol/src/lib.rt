@@ -1,5 +1,7 @@
 //! What every vote is held against: words and rows, kinds of value, refusals, voting machines, runs and the laws.
 
+#![tactic(auto)]
+
 mod admission;
 mod machine;
 mod refusal;

@@ -1,5 +1,7 @@
 //! Stepping down: a full vote that stands as a weak or as a graded one.
 
+#![tactic(auto)]
+
 ghost use Rattle.std.specs.Prelude.{◌≡◌};
 ghost use Rattle.step_down.specs.StepDown.{answering, weak_form, graded_form};
 

@@ -1,5 +1,7 @@
 //! Turpin-Coan: a full vote on any kind of value, over a graded vote on it and a full vote on the switch.
 
+#![tactic(auto)]
+
 ghost use Rattle.std.specs.Prelude.{◌≡◌};
 ghost use Rattle.turpin_coan.specs.TurpinCoan.{entry_for, decided, turpin_coan, tc_state};
 
@@ -37,7 +39,7 @@ impl<G: GradedVote, B: FullVote + Machine<Value = Switch>> Machine for TurpinCoa
 
     type Answer = G::Value;
 
-    ghost model = { turpin_coan Value-as-Value.kind G.Machine.model B.Machine.model };
+    ghost model = { turpin_coan G.Value.kind G.Machine.model B.Machine.model };
 
     ghost state = { tc_state G.Machine.state B.Machine.state };
 

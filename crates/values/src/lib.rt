@@ -1,5 +1,7 @@
 //! The two kinds of value that the stations vote on: the switch and the operating point.
 
+#![tactic(auto)]
+
 mod point;
 mod switch;
 

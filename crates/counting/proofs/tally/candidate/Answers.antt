@@ -9,7 +9,7 @@ pub loop-j-preserved : goal.loop-j-preserved
 loop-j-preserved c =
     let row = view c.args.setup c.args.said c.args.row.now in
     let h = c.loop-j.invariant in
-    let at = c.heard-at-heard.ensures in
+    let at = c.heard_at-heard.ensures in
     elim c.if-lead-eq0.branch [
       | then-lead-eq0 w ↦ simp (w.lead-is, w.word-is, at) (new_lead row _ _ _ h w.if-lead-eq0.true)
       | else-lead-eq0+then-heard-word w ↦

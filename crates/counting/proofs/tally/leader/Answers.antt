@@ -3,7 +3,7 @@ use Rattle.counting.specs.Leader.{view}
 use Rattle.counting.proofs.LeaderLaw.{leading_some, leading_none, leader_is, leader_after}
 use Rattle.counting.proofs.MajorityLaw.{majority_is_leader}
 use Rattle.counting.proofs.tally.leader.Goals as goal
-use Rattle.counting.proofs.tally.leader.Goals.{in-Some-read, in-default-read}
+use Rattle.counting.proofs.tally.leader.Goals.{in-Some-read, in_default-read}
 
 pub returns-in-Some : goal.returns-in-Some
 returns-in-Some g c =
@@ -24,7 +24,7 @@ loop-j-preserved g c =
           c.read.result w.in-Some-read.v c.loop-j.best w.ahead-best.result c.match-read.best
           w.best-is w.ahead-best.ensures c.loop-j.invariant c.heard-at.ensures
           c.read.ensures w.in-Some-read.is w.places-of.ensures
-      | in-default-read w ↦
+      | in_default-read w ↦
           leading_none k row c.args.setup.n c.loop-j.j c.heard-at.result c.read.result
           c.loop-j.best c.match-read.best w.best-is c.loop-j.invariant c.heard-at.ensures
           c.read.ensures w.in-default-read.is
