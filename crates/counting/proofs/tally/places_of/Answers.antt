@@ -34,11 +34,11 @@ loop-j-preserved g c =
 -- what is counted once all places of the row are passed
 ends : (g : given.Over) (c : After-loop-j g) →
     Ends c.args.setup.own c.args.said c.args.row.now c.front-heard.result.now c.args.setup.n
-    (g.row.V-Value.kind.word c.args.v) c.word-word.result c.loop-j.count
+    (g.V.Value.kind.word c.args.v) c.word-word.result c.loop-j.count
 ends g c =
     past_end_counts c.args.setup.own c.args.said c.args.row.now c.front-heard.result.now
-    c.args.setup.n c.front-heard.ensures (g.row.V-Value.kind.word c.args.v)
-    (silent_word g.row.V-Value.kind g.met.V.Value.lawful c.args.v) c.word-word.result
+    c.args.setup.n c.front-heard.ensures (g.V.Value.kind.word c.args.v)
+    (silent_word g.V.Value.kind g.met.V.Value.lawful c.args.v) c.word-word.result
     c.word-word.ensures
     c.loop-j.count c.loop-j.j c.loop-j.invariant.0 (omega arith)
 

@@ -6,13 +6,13 @@ use Rattle.demo.proofs.vote.vote.Goals as goal
 
 pub loop-k-preserved : goal.loop-k-preserved
 loop-k-preserved g c =
-    next_round g.row.V-Value.kind g.M.Machine.model c.args.entries.now c.args.forged.now c.loop-k.k
+    next_round g.V.Value.kind g.M.Machine.model c.args.entries.now c.args.forged.now c.loop-k.k
     _ _ _ _ _ _ _ _ _ _ c.loop-k.invariant c.say-a.ensures c.say-b.ensures c.say-c.ensures
     c.sent-in.ensures c.hear.ensures c.hear-in-loop-k.ensures c.hear-in-loop-k-2.ensures
 
 pub returns : goal.returns
 returns g c =
-    let K = g.row.V-Value.kind in
+    let K = g.V.Value.kind in
     let P = g.M.Machine.model in
     let entries = c.args.entries.now in
     let forged = c.args.forged.now in
@@ -22,5 +22,5 @@ returns g c =
     record {
       answers = all;
       promise = λ takes. subst⁻¹ (Promise K entries) all
-          (keeps_promise K P entries forged c.runs_exist_lem.ensures c.full-law.ensures takes);
+          (keeps_promise K P entries forged c.runs_exist_lem.ensures c.full_law.ensures takes);
     }
