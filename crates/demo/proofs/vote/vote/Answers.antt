@@ -8,7 +8,7 @@ pub loop-k-preserved : goal.loop-k-preserved
 loop-k-preserved g c =
     next_round g.V.Value.kind g.M.Machine.model c.args.entries.now c.args.forged.now c.loop-k.k
     _ _ _ _ _ _ _ _ _ _ c.loop-k.invariant c.say-a.ensures c.say-b.ensures c.say-c.ensures
-    c.sent-in.ensures c.hear.ensures c.hear-in-loop-k.ensures c.hear-in-loop-k-2.ensures
+    c.sent_in.ensures c.hear.ensures c.hear-in-loop-k.ensures c.hear-in-loop-k-2.ensures
 
 pub returns : goal.returns
 returns g c =
@@ -22,5 +22,5 @@ returns g c =
     record {
       answers = all;
       promise = λ takes. subst⁻¹ (Promise K entries) all
-          (keeps_promise K P entries forged c.runs_exist_lem.ensures c.full_law.ensures takes);
+          (keeps_promise K P entries forged c.runs_exist.ensures c.full_law.ensures takes);
     }
