@@ -1,5 +1,5 @@
 -- Information gathering keeps the full law.
-use Rattle.std.proofs.Common.{◌≡◌, ℕ, suc, true, false, [], ◌∷◌, Some, refl, ap, ◌∙◌, arith}
+use Rattle.std.proofs.Common.{◌≡◌, ℕ, suc, [], ◌∷◌, Some, refl, ap, ◌∙◌, arith}
 use Rattle.protocol.specs.Laws.{FullLaw}
 use Rattle.protocol.specs.Run.{Run, Correct, Unanimous, answered}
 use Rattle.values.specs.declared.switch.Switch.{Switch}

@@ -1,5 +1,5 @@
 -- One station, whatever it hears: it says what it holds for the chains, and answers what the empty chain resolves to.
-use Rattle.std.proofs.Common.{◌≡◌, ℕ, zero, suc, ◌+◌, ◌*◌, ◌<◌, ◌≤◌, Bool, true, false, cond, ltb, List, [], ◌∷◌, length, Some, None, sym, refl, ap, ◌∙◌, arith}
+use Rattle.std.proofs.Common.{◌≡◌, ℕ, zero, suc, ◌+◌, ◌*◌, ◌<◌, ◌≤◌, Bool, cond, ltb, List, [], ◌∷◌, length, Some, None, sym, refl, ap, ◌∙◌, arith}
 use mathlib.Core.Path.{subst⁻¹}
 use Rattle.std.proofs.lemmas.Bool.{lt-ltb, le-ltb}
 use Rattle.protocol.specs.declared.setup.Setup.{Setup}
@@ -8,10 +8,10 @@ use Rattle.protocol.specs.Orderly.{Orderly, ReadsOnly, Still}
 use Rattle.protocol.specs.Protocol.{Takes, Admitted, after}
 use Rattle.protocol.proofs.AdmissionLaw.{not_refused}
 use Rattle.values.specs.declared.switch.Switch.{Switch}
-use Rattle.eig.specs.Chain.{Chain, within, longer_chains, resolved}
+use Rattle.eig.specs.Chain.{Chain, longer_chains, resolved}
 use Rattle.eig.specs.Numbering.{chains, number}
 use Rattle.eig.specs.Gathering.{State, idle, gathering, answered, bit, level_word, taken, counted, word_from, switch}
-use Rattle.eig.specs.Gathering.{eig_begun, gathered, eig_heard, eig_said, eig_answer, eig}
+use Rattle.eig.specs.Gathering.{gathered, eig_heard, eig_said, eig_answer, eig}
 use Rattle.eig.specs.Held.{held}
 use Rattle.eig.proofs.OthersLaw.{others_same}
 use Rattle.eig.proofs.ChainsLaw.{ChainOf}

@@ -1,16 +1,15 @@
 -- The two steps of information gathering: a chain whose last station is correct resolves to what that station held,
 -- and correct stations agree on every chain below which they meet such chains.
-use Rattle.std.proofs.Common.{◌≡◌, ℕ, zero, suc, ◌+◌, ◌*◌, ◌<◌, ◌≤◌, Bool, true, false, not, ltb, ◌⊎◌, List, [], ◌∷◌, length, Some, sym, ap, ◌∙◌, inl, inr, ⊎_elim, arith}
+use Rattle.std.proofs.Common.{◌≡◌, ℕ, zero, suc, ◌+◌, ◌*◌, ◌<◌, ◌≤◌, true, not, ltb, List, [], ◌∷◌, length, Some, sym, ap, ◌∙◌, inl, inr, ⊎_elim, arith}
 use Rattle.std.proofs.lemmas.Bool.{cases_Bool, not_from_false}
-use Rattle.protocol.specs.Places.{count}
 use Rattle.protocol.specs.Protocol.{Admitted}
-use Rattle.protocol.specs.Run.{Run, Correct, reached, answered, station}
+use Rattle.protocol.specs.Run.{Run, Correct, answered, station}
 use Rattle.protocol.proofs.AdmissionLaw.{station_admitted}
 use Rattle.protocol.proofs.RowLaw.{said_in, read_in, read_exact}
-use Rattle.eig.specs.Chain.{Chain, within, others, longer_chains}
+use Rattle.eig.specs.Chain.{Chain, others, longer_chains}
 use Rattle.eig.specs.Numbering.{chains, number}
 use Rattle.eig.specs.Gathering.{bit, level_word, counted, switch, eig}
-use Rattle.eig.specs.Held.{held_by, resolved_by, EndsCorrect, Covered, Gathers, GathersAlways}
+use Rattle.eig.specs.Held.{held_by, resolved_by, EndsCorrect, Covered, GathersAlways}
 use Rattle.eig.proofs.OthersLaw.{others_same, others_root, others_cons, others_chain, majority}
 use Rattle.eig.proofs.BitsLaw.{level_bit, level_counts}
 use Rattle.eig.proofs.GatheringLaw.{says, ends, last_round}
