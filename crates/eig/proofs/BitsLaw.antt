@@ -5,7 +5,7 @@ use lib.ListN.{length-map}
 use Rattle.std.proofs.lemmas.List.{get_or-map}
 use Rattle.std.proofs.lemmas.Bool.{lt-ltb}
 use Rattle.std.proofs.lemmas.Bool.Decides.{nat_tests}
-use Rattle.std.specs.List.{AllByRecursion as All}
+use Rattle.std.specs.List.{AllByRecursion as Every}
 use Rattle.eig.specs.Chain.{Chain}
 use Rattle.eig.specs.Numbering.{chains, number}
 use Rattle.eig.specs.Gathering.{bit, packed, level_word, counted}
@@ -48,6 +48,6 @@ module _ (n : ℕ) where
       level_word n k f ≡ level_word n k g
   level_same k f g h = ap packed (go (chains n k) (only_chains n k))
     where
-      go : (cs : List (List ℕ)) → All (ChainOf n k) cs → map f cs ≡ map g cs
+      go : (cs : List (List ℕ)) → Every (ChainOf n k) cs → map f cs ≡ map g cs
       go [] e = refl
       go (c ∷ cs) e = ap (λ b. b ∷ map f cs) (h c e.0) ∙ ap (λ bs. g c ∷ bs) (go cs e.1)

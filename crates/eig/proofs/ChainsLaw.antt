@@ -2,7 +2,7 @@
 use Rattle.std.proofs.Common.{◌≡◌, ℕ, zero, suc, ◌<◌, Bool, true, false, cond, ◌⊎◌, List, [], ◌∷◌, length, get_or, sym, refl, ap, inl, inr, arith}
 use Rattle.std.proofs.lemmas.Bool.{both_ways, cases_eq}
 use Rattle.std.proofs.lemmas.Slice.Eq.{bytes_eq-Decides}
-use Rattle.std.specs.List.{AllByRecursion as All}
+use Rattle.std.specs.List.{AllByRecursion as Every}
 use Rattle.std.specs.Str.{bytes_eq as same}
 use Rattle.eig.specs.Chain.{Chain, within}
 use Rattle.eig.specs.Numbering.{longer, extended, chains, place, number, Before, Ascending, Numbering}
@@ -69,17 +69,17 @@ pub each_numbered : (n : ℕ) (c : List ℕ) → Chain n c →
 each_numbered n c v = at_place c (chains n (length c)) (in_chains n c v)
 
 all_longer : (P : List ℕ → Type 0) (n : ℕ) (c : List ℕ) (rest : List (List ℕ)) →
-    ((r : ℕ) → r < n → within r c ≡ false → P (r ∷ c)) → All P rest → All P (longer n c rest)
+    ((r : ℕ) → r < n → within r c ≡ false → P (r ∷ c)) → Every P rest → Every P (longer n c rest)
 all_longer P zero c rest h e = e
 all_longer P (suc n) c rest h e =
     all_longer P n c (cond (within n c) rest ((n ∷ c) ∷ rest)) (λ r p. h r (omega arith)) (go (within n c) refl)
   where
-    go : (b : Bool) → within n c ≡ b → All P (cond b rest ((n ∷ c) ∷ rest))
+    go : (b : Bool) → within n c ≡ b → Every P (cond b rest ((n ∷ c) ∷ rest))
     go true w = e
     go false w = (h n (omega arith) w, e)
 
 all_extended : (P Q : List ℕ → Type 0) (n : ℕ) (cs : List (List ℕ)) →
-    ((c : List ℕ) → P c → (r : ℕ) → r < n → within r c ≡ false → Q (r ∷ c)) → All P cs → All Q (extended n cs)
+    ((c : List ℕ) → P c → (r : ℕ) → r < n → within r c ≡ false → Q (r ∷ c)) → Every P cs → Every Q (extended n cs)
 all_extended P Q n [] h e = tt
 all_extended P Q n (c ∷ cs) h e =
     all_longer Q n c (extended n cs) (h c e.0) (all_extended P Q n cs h e.1)
@@ -88,19 +88,19 @@ all_extended P Q n (c ∷ cs) h e =
 abbrev pub ChainOf : (n k : ℕ) → List ℕ → Type 0
 ChainOf n k c = Chain n c × (length c ≡ k)
 
-pub only_chains : (n k : ℕ) → All (ChainOf n k) (chains n k)
+pub only_chains : (n k : ℕ) → Every (ChainOf n k) (chains n k)
 only_chains n zero = ((tt, refl), tt)
 only_chains n (suc k) =
     all_extended (ChainOf n k) (ChainOf n (suc k)) n (chains n k)
     (λ c p r h w. ((h, w, p.0), ap suc p.1)) (only_chains n k)
 
-ascends_longer : (n : ℕ) (c : List ℕ) (rest : List (List ℕ)) → ((r : ℕ) → r < n → All (Before (r ∷ c)) rest) →
+ascends_longer : (n : ℕ) (c : List ℕ) (rest : List (List ℕ)) → ((r : ℕ) → r < n → Every (Before (r ∷ c)) rest) →
     Ascending rest → Ascending (longer n c rest)
 ascends_longer zero c rest h a = a
 ascends_longer (suc n) c rest h a =
     ascends_longer n c (cond (within n c) rest ((n ∷ c) ∷ rest)) (λ r p. below r p (within n c)) (here (within n c))
   where
-    below : (r : ℕ) → r < n → (b : Bool) → All (Before (r ∷ c)) (cond b rest ((n ∷ c) ∷ rest))
+    below : (r : ℕ) → r < n → (b : Bool) → Every (Before (r ∷ c)) (cond b rest ((n ∷ c) ∷ rest))
     below r p true = h r (omega arith)
     below r p false = (inr (refl, p), h r (omega arith))
 

@@ -1,7 +1,7 @@
 -- How many chains there are, and the number of a chain by that of the chain without its last station.
 use Rattle.std.proofs.Common.{◌≡◌, ℕ, zero, suc, ◌+◌, ◌-◌, ◌*◌, ◌<◌, Bool, true, false, cond, eqb, ◌⊎◌, List, [], ◌∷◌, length, sym, refl, ap, ◌∙◌, inl, inr, arith}
 use Rattle.std.proofs.lemmas.Bool.{both_ways, ne_eqb, and_left, and_right, cases_eq}
-use Rattle.std.specs.List.{AllByRecursion as All}
+use Rattle.std.specs.List.{AllByRecursion as Every}
 use Rattle.std.specs.Str.{bytes_eq as same}
 use Rattle.eig.specs.Chain.{Chain, within, longer_chains}
 use Rattle.eig.specs.Numbering.{longer, extended, chains, place, number}
@@ -15,7 +15,7 @@ longer_length (suc n) c rest =
     let ih = longer_length n c (cond (within n c) rest ((n ∷ c) ∷ rest)) in
     grind arith
 
-extended_length : (n m : ℕ) (cs : List (List ℕ)) → All (ChainOf n m) cs →
+extended_length : (n m : ℕ) (cs : List (List ℕ)) → Every (ChainOf n m) cs →
     length (extended n cs) ≡ length cs * (n - m)
 extended_length n m [] e = omega arith
 extended_length n m (c ∷ cs) e =
@@ -63,7 +63,7 @@ finds (suc n) r c rest h w = go (cases_eq r n) (λ p. finds n r c more p w)
     go (inr e) less = less (omega arith)
 
 place_cons : (n m r : ℕ) (c : List ℕ) (cs : List (List ℕ)) → r < n → within r c ≡ false → In c cs →
-    All (ChainOf n m) cs → place (r ∷ c) (extended n cs) ≡ place c cs * (n - m) + longer_chains r c
+    Every (ChainOf n m) cs → place (r ∷ c) (extended n cs) ≡ place c cs * (n - m) + longer_chains r c
 place_cons n m r c [] h w i e = absurd i
 place_cons n m r c (d ∷ ds) h w i e = go (same c d) refl i (λ j. place_cons n m r c ds h w j e.1)
   where

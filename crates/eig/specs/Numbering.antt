@@ -1,6 +1,6 @@
 -- The numbers of the chains of one length: ascending by first station, then second, from 0.
 use Rattle.std.specs.Prelude.{◌≡◌, ℕ, zero, suc, ◌<◌, cond, ◌⊎◌, List, [], ◌∷◌, length, slice_index_or}
-use Rattle.std.specs.List.{AllByRecursion as All}
+use Rattle.std.specs.List.{AllByRecursion as Every}
 use Rattle.std.specs.Str.{bytes_eq as same}
 use Rattle.eig.specs.Chain.{Chain, within}
 
@@ -35,11 +35,11 @@ Before (r ∷ c) (s ∷ d) = Before c d ⊎ ((c ≡ d) × (r < s))
 
 abbrev pub Ascending : List (List ℕ) → Type 0
 Ascending [] = Unit {0}
-Ascending (c ∷ cs) = All (Before c) cs × Ascending cs
+Ascending (c ∷ cs) = Every (Before c) cs × Ascending cs
 
 -- `chains n k` are the chains of k out of n stations and nothing else, each at its number, in ascending order
 pub record Numbering : Type 0 where
-  pub only_chains : (n k : ℕ) → All (λ c. Chain n c × (length c ≡ k)) (chains n k)
+  pub only_chains : (n k : ℕ) → Every (λ c. Chain n c × (length c ≡ k)) (chains n k)
   pub each_numbered : (n : ℕ) (c : List ℕ) → Chain n c →
       (number n c < length (chains n (length c))) × (slice_index_or (chains n (length c)) (number n c) [] ≡ c)
   pub ascending : (n k : ℕ) → Ascending (chains n k)
