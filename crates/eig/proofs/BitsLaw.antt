@@ -42,7 +42,8 @@ module _ (n : ℕ) where
   pub level_counts : (k : ℕ) (held : List ℕ → Bool) →
       counted (length (chains n k)) (level_word n k held) ≡ level_word n k held
   level_counts k held =
-      ap (λ b. cond b (level_word n k held) 0) (lt-ltb (level_word n k held) (2 ^ length (chains n k)) (level_below k held))
+      ap (λ b. cond b (level_word n k held) 0)
+      (lt-ltb (level_word n k held) (2 ^ length (chains n k)) (level_below k held))
 
   pub level_same : (k : ℕ) (f g : List ℕ → Bool) → ((c : List ℕ) → ChainOf n k c → f c ≡ g c) →
       level_word n k f ≡ level_word n k g

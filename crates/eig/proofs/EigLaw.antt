@@ -25,7 +25,8 @@ valid n t R v all i ci =
 agree : (n t : ℕ) (R : Run eig n t) (i j : ℕ) → Correct R i → Correct R j →
     (v : Switch) × ((answered R i ≡ Some v) × (answered R j ≡ Some v))
 agree n t R i j ci cj =
-    let alike = frontier R i j (suc t) [] ci cj tt (omega arith) (covered R (suc t) [] (omega (arith, few_faulty R []))) in (
+    let alike = frontier R i j (suc t) [] ci cj tt (omega arith)
+    (covered R (suc t) [] (omega (arith, few_faulty R []))) in (
       switch (resolved_by R j (suc t) []),
       (answers R i ci.0 ∙ ap (λ b. Some (switch b)) alike, answers R j cj.0),
     )

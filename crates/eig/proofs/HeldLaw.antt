@@ -21,7 +21,8 @@ module _ {n t : ℕ} (R : Run eig n t) where
   pub said_level : (i k : ℕ) → i < n → k ≤ t → said_in R k i ≡ level_word n k (held_by R i)
   said_level i k l m = says (station n t i) (R.entry i) (R.rows i) (admitted i l) k m
 
-  pub tells : (i : ℕ) (c : List ℕ) → i < n → Chain n c → length c ≤ t → bit (number n c) (said_in R (length c) i) ≡ held_by R i c
+  pub tells : (i : ℕ) (c : List ℕ) → i < n → Chain n c → length c ≤ t →
+      bit (number n c) (said_in R (length c) i) ≡ held_by R i c
   tells i c l v m = ap (bit (number n c)) (said_level i (length c) l m) ∙ level_bit n (held_by R i) c v
 
   pub answers : (i : ℕ) → i < n → answered R i ≡ Some (switch (resolved_by R i (suc t) []))

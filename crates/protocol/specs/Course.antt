@@ -10,7 +10,8 @@ use Rattle.protocol.specs.Run.{Run, station, reached}
 -- `forged` is what it finds there at a faulty sender's place
 abbrev pub row_of : {V A : Type 0} (P : Protocol V A) (n : ℕ) (correct : ℕ → Bool)
     (forged : (round listener sender : ℕ) → ℕ) → (ℕ → P.State) → (round listener : ℕ) → List ℕ
-row_of P n correct forged states k i = map (λ j. cond (correct j) (P.said (states j)) (forged k i j)) (range_with_len 0 n)
+row_of P n correct forged states k i =
+    map (λ j. cond (correct j) (P.said (states j)) (forged k i j)) (range_with_len 0 n)
 
 -- the states of all stations after k rounds
 abbrev pub course : {V A : Type 0} (P : Protocol V A) (n t : ℕ) (correct : ℕ → Bool) (entry : ℕ → V)

@@ -20,7 +20,8 @@ made p s false b h k = Err Pressure
 -- what making a point answers: a bad pressure comes before a bad speed
 abbrev pub new_point : (pressure : ℕ) (speed : ℤ) → Result Point Refusal
 new_point p s =
-    made p s (nat_le p max_pressure) (nat_le (unsigned_abs s) max_speed) (leb-true p max_pressure) (leb-true (unsigned_abs s) max_speed)
+    made p s (nat_le p max_pressure) (nat_le (unsigned_abs s) max_speed)
+    (leb-true p max_pressure) (leb-true (unsigned_abs s) max_speed)
 
 abbrev pub point_word : Point → ℕ
 point_word p = p.pressure * 65536 + unsigned_abs (p.speed +ℤ pos 6000)

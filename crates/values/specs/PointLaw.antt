@@ -26,7 +26,8 @@ same_point p q e f = λ i. record {
 -- a point's own numbers make that point
 pub new_point_lem : (a : ℕ) (s : ℤ) (p : Point) → p.pressure ≡ a → p.speed ≡ s → Ok p ≡ new_point a s
 new_point_lem a s p e f =
-    go (nat_le a max_pressure) (nat_le (unsigned_abs s) max_speed) (leb-true a max_pressure) (leb-true (unsigned_abs s) max_speed)
+    go (nat_le a max_pressure) (nat_le (unsigned_abs s) max_speed)
+    (leb-true a max_pressure) (leb-true (unsigned_abs s) max_speed)
     (rw (← e) (le-leb p.pressure max_pressure p.limits.0))
     (rw (← f) (le-leb (unsigned_abs p.speed) max_speed p.limits.1))
   where
@@ -39,7 +40,8 @@ new_point_lem a s p e f =
 -- and a point has the numbers that it was made of
 pub made_of : (a : ℕ) (s : ℤ) (p : Point) → result_ok (new_point a s) ≡ Some p → (a ≡ p.pressure) × (s ≡ p.speed)
 made_of a s p e =
-    go (nat_le a max_pressure) (nat_le (unsigned_abs s) max_speed) (leb-true a max_pressure) (leb-true (unsigned_abs s) max_speed) e
+    go (nat_le a max_pressure) (nat_le (unsigned_abs s) max_speed)
+    (leb-true a max_pressure) (leb-true (unsigned_abs s) max_speed) e
   where
     go : (x y : Bool) (h : x ≡ true → a ≤ max_pressure) (k : y ≡ true → unsigned_abs s ≤ max_speed) →
         result_ok (made a s x y h k) ≡ Some p → (a ≡ p.pressure) × (s ≡ p.speed)
@@ -68,7 +70,8 @@ word_reads w p e =
     let h = made_of (w / 65536) (pos (w % 65536) -ℤ pos 6000) p e in omega (arith, ints, h.0, h.1)
 
 -- the size and the sign make the speed
-same_speed : (s t : ℤ) → unsigned_abs s ≡ unsigned_abs t → ◌≡◌ {A = ℕ} (cond (non_neg s) 1 0) (cond (non_neg t) 1 0) → s ≡ t
+same_speed : (s t : ℤ) → unsigned_abs s ≡ unsigned_abs t →
+    ◌≡◌ {A = ℕ} (cond (non_neg s) 1 0) (cond (non_neg t) 1 0) → s ≡ t
 same_speed (pos a) (pos b) e f = ap pos e
 same_speed (pos a) (negsuc b) e f = absurd (omega arith)
 same_speed (negsuc a) (pos b) e f = absurd (omega arith)
