@@ -5,7 +5,7 @@ use Rattle.protocol.specs.declared.refusal.Refusal.TheVariants.{Stations, Faulty
 use Rattle.protocol.specs.declared.setup.Setup.{Setup}
 use Rattle.protocol.specs.Refusals.{Tests, first_refusal, LowestRefusal}
 
--- what a vote for at most `maxStations` stations and `maxFaulty` faulty ones, which takes `rounds` rounds, asks of a
+-- what a vote for at most `max_stations` stations and `max_faulty` faulty ones, which takes `rounds` rounds, asks of a
 -- setup
 abbrev pub setup_tests : (max_stations max_faulty rounds : ℕ) → Setup → Tests
 setup_tests max_stations max_faulty rounds s =

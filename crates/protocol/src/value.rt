@@ -28,6 +28,8 @@ pub trait Value: Copy {
     fn rest() -> Self
         ensures { result ≡ kind.rest };
 
+    // A member below the last `fn` is a law: each implementation proves it, and generic code may rest on it. Further up
+    // it would be data, of which nothing is known.
     ghost lawful: { Lawful kind };
 }
 
