@@ -1,4 +1,5 @@
 pub mod Words
+pub mod Heard
 pub mod Places
 pub mod Kind
 pub mod Refusals

@@ -1,5 +1,5 @@
 -- The refusals by their numbers, and which one a call gives.
-use Rattle.std.specs.Prelude.{◌≡◌, ℕ, ◌≤◌, Bool, true, cond, ◌⊎◌, List, [], ◌∷◌, Some, None, Option}
+use Rattle.std.specs.Prelude.{◌≡◌, ℕ, ◌≤◌, Bool, true, cond, ◌⊎◌, List, [], ◌∷◌, Some, None, Option, codes}
 use Rattle.protocol.specs.declared.refusal.Refusal.{Refusal}
 use Rattle.protocol.specs.declared.refusal.Refusal.TheVariants.{Stations, Faulty, OwnNumber, Rounds, Pressure, Speed}
 
@@ -10,6 +10,15 @@ number OwnNumber = 3
 number Rounds = 4
 number Pressure = 6
 number Speed = 7
+
+-- how a refusal is printed
+abbrev pub message : Refusal → List ℕ
+message Stations = codes "fewer than 2 stations, or more than the vote takes"
+message Faulty = codes "more faulty stations than the vote bears, or a third of all or more"
+message OwnNumber = codes "the own number is not that of a station"
+message Rounds = codes "more than 65,535 rounds"
+message Pressure = codes "a pressure above its limit"
+message Speed = codes "a speed outside its limits"
 
 -- a call's refusals in ascending order, each with the test that tells whether it applies
 abbrev pub Tests : Type 0

@@ -4,7 +4,7 @@ ghost use Rattle.protocol.specs.Orderly.{Orderly};
 ghost use Rattle.protocol.specs.Laws.{WeakLaw, GradedLaw, FullLaw};
 
 use crate::refusal::Refusal;
-use crate::setup::Setup;
+use crate::setup::{Limits, Setup};
 use crate::value::Value;
 
 /// One station's part in a vote. Every round it says one word, then hears one row.
@@ -35,8 +35,11 @@ pub trait Machine: Copy {
     fn refusal(setup: Setup) -> Option<Refusal>
         ensures { result ≡ refused model setup }
     {
-        let rounds = Self::rounds(setup.n, setup.t);
-        setup.refusal(Self::max_stations(), Self::max_faulty(), rounds)
+        setup.refusal(Limits {
+            max_stations: Self::max_stations(),
+            max_faulty: Self::max_faulty(),
+            rounds: Self::rounds(setup.n, setup.t),
+        })
     }
 
     /// A machine before its first round, or an idle one where the setup is refused.

@@ -1,5 +1,8 @@
-ghost use Rattle.std.specs.Prelude.{◌≡◌};
-ghost use Rattle.protocol.specs.Refusals.{number};
+ghost use Rattle.std.specs.Prelude.{◌≡◌, Some};
+ghost use Rattle.protocol.specs.Refusals.{number, message};
+
+use std::error::Error;
+use std::fmt;
 
 /// Why a call was refused.
 #[derive(Clone, Copy, PartialEq, Eq, Debug)]
@@ -23,6 +26,7 @@ impl Refusal {
     pub fn number(self) -> u8
         ensures { result ≡ number self }
     {
+        // no discriminants: two that are alike, which a must-fail edit tries, would be no program at all
         match self {
             Refusal::Stations => 1,
             Refusal::Faulty => 2,
@@ -33,3 +37,21 @@ impl Refusal {
         }
     }
 }
+
+impl fmt::Display for Refusal {
+    ghost output = { λ r. Some (message r) };
+
+    fn fmt<W: fmt::Write>(&self, f: &mut fmt::Formatter<W>) -> fmt::Result {
+        f.write_str(match self {
+            Refusal::Stations => "fewer than 2 stations, or more than the vote takes",
+            Refusal::Faulty =>
+                "more faulty stations than the vote bears, or a third of all or more",
+            Refusal::OwnNumber => "the own number is not that of a station",
+            Refusal::Rounds => "more than 65,535 rounds",
+            Refusal::Pressure => "a pressure above its limit",
+            Refusal::Speed => "a speed outside its limits",
+        })
+    }
+}
+
+impl Error for Refusal {}

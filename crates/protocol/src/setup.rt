@@ -17,18 +17,26 @@ pub struct Setup {
     pub own: usize,
 }
 
+/// What a vote takes: the largest numbers of stations and of faulty ones, and the rounds that it needs for a setup.
+#[derive(Clone, Copy)]
+pub struct Limits {
+    pub max_stations: usize,
+    pub max_faulty: usize,
+    pub rounds: usize,
+}
+
 impl Setup {
     /// Why a vote with these limits does not take this setup: the lowest refusal that applies.
-    pub fn refusal(self, max_stations: usize, max_faulty: usize, rounds: usize) -> Option<Refusal>
-        ensures { result ≡ refusal max_stations max_faulty rounds self }
+    pub fn refusal(self, limits: Limits) -> Option<Refusal>
+        ensures { result ≡ refusal limits.max_stations limits.max_faulty limits.rounds self }
     {
-        if self.n < 2 || max_stations < self.n {
+        if self.n < 2 || limits.max_stations < self.n {
             Some(Refusal::Stations)
-        } else if max_faulty < self.t || (self.n - 1) / 3 < self.t {
+        } else if limits.max_faulty < self.t || (self.n - 1) / 3 < self.t {
             Some(Refusal::Faulty)
         } else if self.n <= self.own {
             Some(Refusal::OwnNumber)
-        } else if MANY_ROUNDS <= rounds {
+        } else if MANY_ROUNDS <= limits.rounds {
             Some(Refusal::Rounds)
         } else {
             None

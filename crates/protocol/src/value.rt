@@ -1,8 +1,9 @@
 ghost use Rattle.std.specs.Prelude.{◌≡◌};
+ghost use Rattle.std.specs.Ordering.{partial_lt};
 ghost use Rattle.protocol.specs.Kind.{Kind, Lawful, value_of};
 
-/// A kind of value that stations vote on.
-pub trait Value: Copy {
+/// A kind of value that stations vote on, in its order.
+pub trait Value: Copy + Ord {
     ghost kind: { Kind Self };
 
     /// The word that stands for this value.
@@ -20,20 +21,21 @@ pub trait Value: Copy {
         Self::read(word).unwrap_or(Self::rest())
     }
 
-    /// The order of the values; of two different ones exactly one is less.
-    fn less(self, other: Self) -> bool
-        ensures { result ≡ kind.less self other };
-
     /// The least value, which stands where nothing was entered or settled.
     fn rest() -> Self
         ensures { result ≡ kind.rest };
 
     // A member below the last `fn` is a law: each implementation proves it, and generic code may rest on it. Further up
     // it would be data, of which nothing is known.
+
+    // what `<` answers is the order of the kind
+    ghost ordered: { (a b : Self) → partial_lt Self.partial_cmp a b ≡ kind.less a b };
+
     ghost lawful: { Lawful kind };
 }
 
 /// The laws of a kind of value, which every implementation of `Value` has proved.
 pub fn lawful_kind<V: Value>()
-    ensures { Lawful V.Value.kind }
+    ensures lawful { Lawful V.Value.kind }
+    ensures ordered { (a b : V) → partial_lt V.partial_cmp a b ≡ V.Value.kind.less a b }
 {}

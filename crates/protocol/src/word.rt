@@ -1,19 +1,28 @@
-ghost use Rattle.std.specs.Prelude.{◌≡◌, slice_index_or};
-ghost use Rattle.protocol.specs.Words.{silent, heard_at};
+ghost use Rattle.std.specs.Prelude.{◌≡◌};
+ghost use Rattle.protocol.specs.Heard.{as_heard};
+
+use crate::setup::Setup;
 
 /// The word that reads as no value of any kind.
 pub const SILENT: u64 = u64::MAX;
 
-/// The word at place `j` of a row, as the station `own`, which said `said` in this round, reads it.
-pub fn heard_at(own: usize, said: u64, row: &[u64], j: usize) -> u64
-    ensures { result ≡ heard_at own said row.now j }
-{
-    if j == own { said } else { place(row, j) }
+/// A row as a station reads it that said `said` in this round.
+#[derive(Clone, Copy)]
+pub struct Heard<'a> {
+    pub setup: Setup,
+    pub said: u64,
+    pub row: &'a [u64],
 }
 
-// The word at a place of a row; past its end all are silent.
-fn place(row: &[u64], j: usize) -> u64
-    ensures { result ≡ slice_index_or row.now j silent }
-{
-    if j < row.len() { row[j] } else { SILENT }
+impl Heard<'_> {
+    /// The word at place `j`: at the own place what was said, past the row's end silence.
+    pub fn at(self, j: usize) -> u64
+        ensures { result ≡ as_heard self.entry j }
+    {
+        if j == self.setup.own {
+            self.said
+        } else {
+            self.row.get(j).copied().unwrap_or(SILENT)
+        }
+    }
 }
