@@ -1,13 +1,17 @@
 -- The leader of a row leads, and nothing else does.
-use Rattle.std.proofs.Common.{◌≡◌, ℕ, zero, suc, ◌+◌, ◌<◌, ◌≤◌, Bool, true, false, cond, ◌&&◌, ◌||◌, eqb, ltb, ◌⊎◌, Some, None, Option, sym, refl, ap, ◌∙◌, inl, inr, ⊎_elim, add-one, arith}
+use Rattle.std.proofs.Common.{◌≡◌, ℕ, zero, suc, ◌+◌, ◌<◌, ◌≤◌, List, [], ◌∷◌, ◌++◌, map, fold, Bool, true, false, cond, ◌&&◌, ◌||◌, eqb, ltb, ◌⊎◌, Some, None, Option, sym, refl, ap, ◌∙◌, inl, inr, ⊎_elim, zero-add, arith}
 use mathlib.Core.Path.{subst⁻¹}
+use Rattle.std.specs.List.{filter_map, range_with_len}
+use Rattle.std.proofs.lemmas.List.{map-append}
+use Rattle.std.proofs.lemmas.List.Elements.{filter_map-append}
+use Rattle.std.proofs.lemmas.List.Sums.{fold-append}
 use Rattle.std.proofs.lemmas.Bool.{cases_Bool, cases_eq, cases_lt, ltb-false, eq-eqb, or_parts, both_ways}
 use Rattle.std.proofs.lemmas.Bool.Decides.{nat_tests}
 use Rattle.protocol.specs.Kind.{Kind, Lawful}
 use Rattle.protocol.specs.Places.{places}
 use Rattle.protocol.proofs.KindLaw.{word_injective}
 use Rattle.protocol.proofs.PlacesLaw.{place_of, place_counts, places_same}
-use Rattle.counting.specs.Leader.{beaten, ahead, considered, leading, leader, Leads, LeadsAlone}
+use Rattle.counting.specs.Leader.{beaten, ahead, considered, counted, leading, leader, Leads, LeadsAlone}
 
 -- rows that are alike at the first n places have one leader
 leading_same : {V : Type 0} (K : Kind V) (row row' : ℕ → ℕ) (n k : ℕ) → k ≤ n →
@@ -26,26 +30,43 @@ pub leader_same : {V : Type 0} (K : Kind V) (row row' : ℕ → ℕ) (n : ℕ) �
     ((j : ℕ) → j < n → row j ≡ row' j) → leader K row n ≡ leader K row' n
 leader_same K row row' n h = leading_same K row row' n n (omega arith) h
 
--- one place more: it reads as a value, or as none
-leading_next : {V : Type 0} (K : Kind V) (row : ℕ → ℕ) (n j w : ℕ) (o : Option V) → w ≡ row j → o ≡ K.reads w →
-    considered K row n (leading K row n j) o ≡ leading K row n (j + 1)
-leading_next K row n j w o f r =
-    ap (considered K row n (leading K row n j)) (r ∙ ap K.reads f) ∙ ap (leading K row n) (sym (add-one j))
+-- the numbers below k + 1 are those below k, and k
+range_next : (a k : ℕ) → range_with_len a (suc k) ≡ range_with_len a k ++ (a + k) ∷ []
+range_next a zero = ap (λ x. x ∷ []) (omega arith)
+range_next a (suc k) =
+    let e : a + 1 + k ≡ a + suc k = omega arith in
+    ap (λ xs. a ∷ xs) (range_next (a + 1) k ∙ ap (λ x. range_with_len (a + 1) k ++ x ∷ []) e)
 
-pub leading_some : {V : Type 0} (K : Kind V) (row : ℕ → ℕ) (n j w c : ℕ) (o : Option V) (v : V)
-    (best taken next : V × ℕ) → next ≡ taken → taken ≡ ahead K best (v, c) → best ≡ leading K row n j → w ≡ row j →
-    o ≡ K.reads w → o ≡ Some v → c ≡ places row (K.word v) n → next ≡ leading K row n (j + 1)
-leading_some K row n j w c o v best taken next p q e f r s h =
-    p ∙
-    (q ∙
-    ((λ i. ahead K (e i) (v, h i)) ∙
-    (ap (considered K row n (leading K row n j)) (sym s) ∙ leading_next K row n j w o f r)))
+-- the leader is ahead of all places that read as a value, taken one after the other
+module _ {V : Type 0} (K : Kind V) (row : ℕ → ℕ) (n : ℕ) where
+  abbrev taken : List ℕ → List (V × ℕ)
+  taken js = map (λ v. (v, places row (K.word v) n)) (filter_map (λ j. K.reads (row j)) js)
 
-pub leading_none : {V : Type 0} (K : Kind V) (row : ℕ → ℕ) (n j w : ℕ) (o : Option V) (best next : V × ℕ) →
-    next ≡ best → best ≡ leading K row n j → w ≡ row j → o ≡ K.reads w → o ≡ None →
-    next ≡ leading K row n (j + 1)
-leading_none K row n j w o best next p e f r s =
-    p ∙ (e ∙ (ap (considered K row n (leading K row n j)) (sym s) ∙ leading_next K row n j w o f r))
+  -- what place j adds
+  place_taken : (j : ℕ) (best : V × ℕ) → fold (ahead K) best (taken (j ∷ [])) ≡ considered K row n best (K.reads (row j))
+  place_taken j best = go (K.reads (row j)) refl
+    where
+      go : (o : Option V) → K.reads (row j) ≡ o → fold (ahead K) best (taken (j ∷ [])) ≡ considered K row n best o
+      go None e = rw e refl
+      go (Some v) e = rw e refl
+
+  taken_next : (js : List ℕ) (j : ℕ) → taken (js ++ j ∷ []) ≡ taken js ++ taken (j ∷ [])
+  taken_next js j =
+      ap (map (λ v. (v, places row (K.word v) n))) (filter_map-append (λ i. K.reads (row i)) js (j ∷ [])) ∙
+      map-append (λ v. (v, places row (K.word v) n)) _ _
+
+  leading_fold : (k : ℕ) → fold (ahead K) (K.rest, 0) (taken (range_with_len 0 k)) ≡ leading K row n k
+  leading_fold zero = refl
+  leading_fold (suc k) =
+      let js = range_with_len 0 k in
+      ap (λ is. fold (ahead K) (K.rest, 0) (taken is)) (range_next 0 k ∙ ap (λ j. js ++ j ∷ []) (zero-add k)) ∙
+      (ap (fold (ahead K) (K.rest, 0)) (taken_next js k) ∙
+      (fold-append (ahead K) (K.rest, 0) (taken js) (taken (k ∷ [])) ∙
+      (ap (λ best. fold (ahead K) best (taken (k ∷ []))) (leading_fold k) ∙
+      place_taken k (leading K row n k))))
+
+  pub leader_fold : fold (ahead K) (K.rest, 0) (counted K row n) ≡ leader K row n
+  leader_fold = leading_fold n
 
 -- a larger number, or an equal one and a test that carries over
 carries_over : (x y z : ℕ) (p q r : Bool) → (q ≡ true → p ≡ true → r ≡ true) →
@@ -73,13 +94,13 @@ module _ {V : Type 0} (K : Kind V) (lawful : Lawful K) where
 
   module _ (row : ℕ → ℕ) (n : ℕ) where
     -- a value with its count
-    abbrev counted : V → V × ℕ
-    counted v = (v, places row (K.word v) n)
+    abbrev with_count : V → V × ℕ
+    with_count v = (v, places row (K.word v) n)
 
     -- what is ahead after the first k places: rest, or a value that is counted; and nothing so far beats it
     record Ahead (k : ℕ) (best : V × ℕ) : Type 0 where
-      from : (best ≡ (K.rest, 0)) ⊎ ((0 < best.1) × (best ≡ counted best.0))
-      unbeaten : (j : ℕ) (u : V) → j < k → K.reads (row j) ≡ Some u → beaten K best (counted u) ≡ false
+      from : (best ≡ (K.rest, 0)) ⊎ ((0 < best.1) × (best ≡ with_count best.0))
+      unbeaten : (j : ℕ) (u : V) → j < k → K.reads (row j) ≡ Some u → beaten K best (with_count u) ≡ false
 
     one_more : (k : ℕ) (best : V × ℕ) (o : Option V) → k < n → K.reads (row k) ≡ o → Ahead k best →
         Ahead (suc k) (considered K row n best o)
@@ -90,27 +111,27 @@ module _ {V : Type 0} (K : Kind V) (lawful : Lawful K) where
           (λ d. h.unbeaten j u (omega arith) r)
           (cases_eq j k);
     }
-    one_more k best (Some v) l e h = step (beaten K best (counted v)) refl
+    one_more k best (Some v) l e h = step (beaten K best (with_count v)) refl
       where
         here : (j : ℕ) (u : V) → j ≡ k → K.reads (row j) ≡ Some u → u ≡ v
         here j u d r = let a : K.reads (row k) ≡ Some u = rw (← d) r in cc
 
-        step : (b : Bool) → beaten K best (counted v) ≡ b → Ahead (suc k) (cond b (counted v) best)
+        step : (b : Bool) → beaten K best (with_count v) ≡ b → Ahead (suc k) (cond b (with_count v) best)
         step true f = record {
           from = inr (place_counts row (K.word v) n k l (lawful.word_reads (row k) v e), refl);
           unbeaten = λ j u m r. ⊎_elim
-              (λ d. ap (λ x. beaten K (counted v) (counted x)) (here j u d r) ∙ beaten_by_none (counted v))
+              (λ d. ap (λ x. beaten K (with_count v) (with_count x)) (here j u d r) ∙ beaten_by_none (with_count v))
               (λ d. ⊎_elim
-              (λ g. absurd (both_ways (beaten K best (counted u)) (h.unbeaten j u (omega arith) r)
-              (beaten_on best (counted v) (counted u) f g)))
+              (λ g. absurd (both_ways (beaten K best (with_count u)) (h.unbeaten j u (omega arith) r)
+              (beaten_on best (with_count v) (with_count u) f g)))
               (λ g. g)
-              (cases_Bool (beaten K (counted v) (counted u))))
+              (cases_Bool (beaten K (with_count v) (with_count u))))
               (cases_eq j k);
         }
         step false f = record {
           from = h.from;
           unbeaten = λ j u m r. ⊎_elim
-              (λ d. ap (λ x. beaten K best (counted x)) (here j u d r) ∙ f)
+              (λ d. ap (λ x. beaten K best (with_count x)) (here j u d r) ∙ f)
               (λ d. h.unbeaten j u (omega arith) r)
               (cases_eq j k);
         }
@@ -122,7 +143,7 @@ module _ {V : Type 0} (K : Kind V) (lawful : Lawful K) where
 
     -- a value that is counted stands at a place and so does not beat what is ahead of all
     none_beats : (best : V × ℕ) → Ahead n best → (v : V) → 0 < places row (K.word v) n →
-        beaten K best (counted v) ≡ false
+        beaten K best (with_count v) ≡ false
     none_beats best h v some =
         let f = place_of row (K.word v) n some in
         h.unbeaten f.0 v f.1 (ap K.reads f.2 ∙ lawful.reads_word v)
@@ -204,7 +225,3 @@ module _ {V : Type 0} (K : Kind V) (lawful : Lawful K) where
       leads = subst⁻¹ (Leads K row n) e leader_leads;
       alone = λ b h. leads_only b (leader K row n) h leader_leads ∙ sym e;
     }
-
-    -- a loop over all places ends with it
-    pub leader_after : (j : ℕ) (best : V × ℕ) → best ≡ leading K row n j → j ≡ n → best ≡ leader K row n
-    leader_after j best e end = e ∙ ap (leading K row n) end

@@ -1,5 +1,6 @@
 -- The leader of a row: the value that most places read as, with their number.
-use Rattle.std.specs.Prelude.{◌≡◌, ℕ, zero, suc, ◌<◌, ◌≤◌, Bool, true, cond, ◌&&◌, ◌||◌, ◌⊎◌, List, Some, None, Option, ◌==◌, nat_lt}
+use Rattle.std.specs.Prelude.{◌≡◌, ℕ, zero, suc, ◌<◌, ◌≤◌, Bool, true, cond, ◌&&◌, ◌||◌, ◌⊎◌, List, map, Some, None, Option, ◌==◌, nat_lt}
+use Rattle.std.specs.List.{filter_map, range_with_len}
 use Rattle.protocol.specs.Kind.{Kind}
 use Rattle.protocol.specs.Places.{places}
 use Rattle.protocol.specs.Words.{heard_at}
@@ -32,6 +33,10 @@ module _ {V : Type 0} (K : Kind V) where
 
   abbrev pub leader : (row : ℕ → ℕ) (n : ℕ) → V × ℕ
   leader row n = leading row n n
+
+  -- the values that the n places read as, place by place, each with its count
+  abbrev pub counted : (row : ℕ → ℕ) (n : ℕ) → List (V × ℕ)
+  counted row n = map (λ v. (v, places row (K.word v) n)) (filter_map (λ j. K.reads (row j)) (range_with_len 0 n))
 
 -- what a leader is; `leader` is proved to be one, and the only one
 pub record Leads {V : Type 0} (K : Kind V) (row : ℕ → ℕ) (n : ℕ) (best : V × ℕ) : Type 0 where

@@ -2,7 +2,7 @@ ghost use Rattle.counting.specs.Counting.{counting};
 ghost use Rattle.counting.specs.QuorumRule.{QuorumRule};
 
 use crate::tally::leader;
-use protocol::{Machine, SILENT, Setup, Value, WeakVote};
+use protocol::{Heard, Machine, SILENT, Setup, Value, WeakVote};
 use std::marker::PhantomData;
 
 /// Where a station stands in the counting vote; values are kept as words.
@@ -64,8 +64,9 @@ impl<V: Value> Machine for Count<V> {
 
     fn hear(&mut self, row: &[u64]) {
         if let CountState::Voting { setup, word } = self.state {
-            let (value, places) = leader::<V>(setup, word, row);
-            let word = if setup.n.saturating_sub(setup.t) <= places {
+            let said = word;
+            let (value, places) = leader::<V>(Heard { setup, said, row });
+            let word = if setup.quorum() <= places {
                 value.word()
             } else {
                 SILENT

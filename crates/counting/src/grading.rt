@@ -4,7 +4,7 @@ ghost use Rattle.counting.specs.GradeRule.{GradeRule};
 ghost use Rattle.counting.specs.Grading.{grading, grading_state};
 
 use crate::tally::leader;
-use protocol::{GradedVote, MANY_ROUNDS, Machine, SILENT, Setup, Value, WeakVote};
+use protocol::{GradedVote, Heard, MANY_ROUNDS, Machine, SILENT, Setup, Value, WeakVote};
 
 /// Graded consensus over a weak vote: its answers are told and counted in one round more.
 #[derive(Clone, Copy)]
@@ -19,10 +19,7 @@ pub enum Grading<W> {
 fn told<V: Value>(answer: Option<V>) -> u64
     ensures { result ≡ word_of V.Value.kind answer }
 {
-    match answer {
-        Some(value) => value.word(),
-        None => SILENT,
-    }
+    answer.map_or(SILENT, V::word)
 }
 
 impl<W: WeakVote> Machine for Grading<W> {
@@ -74,8 +71,9 @@ impl<W: WeakVote> Machine for Grading<W> {
                 }
             }
             Grading::Polling { setup, word } => {
-                let (value, places) = leader::<W::Value>(*setup, *word, row);
-                let grade = setup.n.saturating_sub(setup.t) <= places;
+                let (setup, said) = (*setup, *word);
+                let (value, places) = leader::<W::Value>(Heard { setup, said, row });
+                let grade = setup.quorum() <= places;
                 *self = Grading::Answered {
                     word: value.word(),
                     grade,

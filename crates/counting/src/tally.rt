@@ -1,27 +1,33 @@
-ghost use Rattle.std.specs.Prelude.{◌≡◌, take};
+ghost use Rattle.std.specs.Prelude.{◌≡◌, fold, take};
+ghost use Rattle.protocol.specs.Heard.{as_heard};
 ghost use Rattle.protocol.specs.Places.{places};
-ghost use Rattle.counting.specs.Leader.{view, ahead, leader, Leads, LeadsAlone};
+ghost use Rattle.counting.specs.Leader.{ahead, counted, leader, Leads, LeadsAlone};
 ghost use Rattle.counting.specs.Majority.{OnlyCandidate, Majority};
 
-use protocol::{SILENT, Setup, Value, heard_at};
+use protocol::{Heard, SILENT, Value};
 
 /// The value that most places read as, the least one on equal counts, with their number.
-pub fn leader<V: Value>(setup: Setup, said: u64, row: &[u64]) -> (V, usize)
-    ensures value { result ≡ leader V.Value.kind (view setup said row.now) setup.n }
-    ensures leads { Leads V.Value.kind (view setup said row.now) setup.n result }
-    ensures alone { LeadsAlone V.Value.kind (view setup said row.now) setup.n result }
+pub fn leader<V: Value>(heard: Heard) -> (V, usize)
+    ensures value { result ≡ leader V.Value.kind (as_heard heard.entry) heard.entry.setup.n }
+    ensures leads { Leads V.Value.kind (as_heard heard.entry) heard.entry.setup.n result }
+    ensures alone { LeadsAlone V.Value.kind (as_heard heard.entry) heard.entry.setup.n result }
 {
     // a majority leads, and two passes over the row find it
-    if let Some(best) = majority::<V>(setup, said, row) {
+    if let Some(best) = majority::<V>(heard) {
         return best;
     }
-    let mut best = (V::rest(), 0);
-    for j in 0..setup.n {
-        if let Some(v) = V::read(heard_at(setup.own, said, row, j)) {
-            best = ahead((best.0, best.1), (v, places_of(setup, said, row, v)));
-        }
-    }
-    best
+    foremost(heard)
+}
+
+// What is ahead of rest and of each value that a place reads as, taken one after the other.
+fn foremost<V: Value>(heard: Heard) -> (V, usize)
+    ensures { result ≡ fold (ahead V.Value.kind) (V.Value.kind.rest, 0)
+        (counted V.Value.kind (as_heard heard.entry) heard.entry.setup.n) }
+{
+    (0..heard.setup.n)
+        .filter_map(|j| V::read(heard.at(j)))
+        .map(|v| (v, places_of(heard, v)))
+        .fold((V::rest(), 0), ahead)
 }
 
 // The first of two values with their counts, unless the second beats it: a larger count, or an equal one and less.
@@ -36,12 +42,12 @@ fn ahead<V: Value>(a: (V, usize), b: (V, usize)) -> (V, usize)
 }
 
 // The value that more than half of the places read as, if there is one.
-fn majority<V: Value>(setup: Setup, said: u64, row: &[u64]) -> Option<(V, usize)>
-    ensures { Majority V.Value.kind (view setup said row.now) setup.n result }
+fn majority<V: Value>(heard: Heard) -> Option<(V, usize)>
+    ensures { Majority V.Value.kind (as_heard heard.entry) heard.entry.setup.n result }
 {
-    let v = V::read(candidate(setup, said, row))?;
-    let count = places_of(setup, said, row, v);
-    if setup.n / 2 < count {
+    let v = V::read(candidate(heard))?;
+    let count = places_of(heard, v);
+    if heard.setup.n / 2 < count {
         Some((v, count))
     } else {
         None
@@ -50,17 +56,17 @@ fn majority<V: Value>(setup: Setup, said: u64, row: &[u64]) -> Option<(V, usize)
 
 // The only word that may stand at more than half of the places: each other word is set off against one that differs
 // (Boyer and Moore).
-fn candidate(setup: Setup, said: u64, row: &[u64]) -> u64
-    ensures { OnlyCandidate (view setup said row.now) setup.n result }
+fn candidate(heard: Heard) -> u64
+    ensures { OnlyCandidate (as_heard heard.entry) heard.entry.setup.n result }
 {
     let mut word = SILENT;
     let mut lead: usize = 0;
-    for j in 0..setup.n {
-        let heard = heard_at(setup.own, said, row, j);
+    for j in 0..heard.setup.n {
+        let next = heard.at(j);
         if lead == 0 {
-            word = heard;
+            word = next;
             lead = 1;
-        } else if heard == word {
+        } else if next == word {
             lead += 1;
         } else {
             lead -= 1;
@@ -70,20 +76,21 @@ fn candidate(setup: Setup, said: u64, row: &[u64]) -> u64
 }
 
 // How many places read as the value `v`.
-fn places_of<V: Value>(setup: Setup, said: u64, row: &[u64], v: V) -> usize
-    ensures { result ≡ places (view setup said row.now) (V.Value.kind.word v) setup.n }
+fn places_of<V: Value>(heard: Heard, v: V) -> usize
+    ensures { result ≡ places (as_heard heard.entry) (V.Value.kind.word v) heard.entry.setup.n }
 {
+    let Heard { setup, said, row } = heard;
     let word = v.word();
-    let heard = front(row, setup.n);
+    let front = front(row, setup.n);
     let mut count = 0;
-    for (j, x) in heard.iter().enumerate() {
+    for (j, x) in front.iter().enumerate() {
         let w = if j == setup.own { said } else { *x };
         if w == word {
             count += 1;
         }
     }
     // past the end of a short row only the own place can hold a value
-    if heard.len() <= setup.own && setup.own < setup.n && said == word {
+    if front.len() <= setup.own && setup.own < setup.n && said == word {
         count += 1;
     }
     count
@@ -93,5 +100,5 @@ fn places_of<V: Value>(setup: Setup, said: u64, row: &[u64], v: V) -> usize
 fn front(row: &[u64], n: usize) -> &[u64]
     ensures { result.now ≡ take n row.now }
 {
-    if n < row.len() { &row[0..n] } else { row }
+    row.get(..n).unwrap_or(row)
 }

@@ -5,4 +5,4 @@ use Rattle.protocol.specs.Words.{heard_at}
 
 -- the word at each place, as the station reads it
 abbrev pub as_heard : Heard → ℕ → ℕ
-as_heard h j = heard_at h.setup.own h.said h.row.now j
+as_heard h = heard_at h.setup.own h.said h.row.now

@@ -1,4 +1,4 @@
-ghost use Rattle.std.specs.Prelude.{◌≡◌};
+ghost use Rattle.std.specs.Prelude.{◌≡◌, ◌-◌};
 ghost use Rattle.protocol.specs.Admission.{refusal};
 
 use crate::refusal::Refusal;
@@ -26,6 +26,13 @@ pub struct Limits {
 }
 
 impl Setup {
+    /// How many places a value needs to be sure: as many stations are correct at least.
+    pub fn quorum(self) -> usize
+        ensures { result ≡ self.n - self.t }
+    {
+        self.n.saturating_sub(self.t)
+    }
+
     /// Why a vote with these limits does not take this setup: the lowest refusal that applies.
     pub fn refusal(self, limits: Limits) -> Option<Refusal>
         ensures { result ≡ refusal limits.max_stations limits.max_faulty limits.rounds self }

@@ -2,7 +2,7 @@ ghost use Rattle.std.specs.Prelude.{◌≡◌};
 ghost use Rattle.std.specs.Ordering.{partial_lt};
 ghost use Rattle.protocol.specs.Kind.{Kind, Lawful, value_of};
 
-/// A kind of value that stations vote on, in its order.
+/// A kind of value that stations vote on.
 pub trait Value: Copy + Ord {
     ghost kind: { Kind Self };
 
@@ -21,6 +21,13 @@ pub trait Value: Copy + Ord {
         Self::read(word).unwrap_or(Self::rest())
     }
 
+    /// Whether this value comes before the other; of two different ones exactly one does.
+    final fn less(self, other: Self) -> bool
+        ensures { result ≡ kind.less self other }
+    {
+        self < other
+    }
+
     /// The least value, which stands where nothing was entered or settled.
     fn rest() -> Self
         ensures { result ≡ kind.rest };
@@ -28,7 +35,7 @@ pub trait Value: Copy + Ord {
     // A member below the last `fn` is a law: each implementation proves it, and generic code may rest on it. Further up
     // it would be data, of which nothing is known.
 
-    // what `<` answers is the order of the kind
+    // the order of the kind is the one by which Rust compares
     ghost ordered: { (a b : Self) → partial_lt Self.partial_cmp a b ≡ kind.less a b };
 
     ghost lawful: { Lawful kind };
@@ -36,6 +43,5 @@ pub trait Value: Copy + Ord {
 
 /// The laws of a kind of value, which every implementation of `Value` has proved.
 pub fn lawful_kind<V: Value>()
-    ensures lawful { Lawful V.Value.kind }
-    ensures ordered { (a b : V) → partial_lt V.partial_cmp a b ≡ V.Value.kind.less a b }
+    ensures { Lawful V.Value.kind }
 {}

@@ -1,19 +1,24 @@
 -- Operating points are a lawful kind of value.
-use Rattle.std.specs.Prelude.{◌≡◌, ℕ, ◌*◌, ◌/◌, ◌%◌, ◌≤◌, Bool, true, false, cond, List, [], ◌∷◌, ℤ, pos, negsuc, ◌-ℤ◌, Some, Ok, ◌≢◌, nat_le, slice_index, unsigned_abs, refl}
-use Rattle.std.proofs.Common.{ap, sym, ⊎_elim, arith}
+use Rattle.std.specs.Prelude.{◌≡◌, ℕ, ◌*◌, ◌/◌, ◌%◌, ◌≤◌, Bool, true, false, cond, ◌⊎◌, List, [], ◌∷◌, ℤ, pos, negsuc, ◌-ℤ◌, Some, Ok, ◌≢◌, ◌&&◌, nat_le, nat_eq, slice_index, unsigned_abs, refl}
+use Rattle.std.proofs.Common.{ap, sym, ◌∙◌, inl, inr, arith}
 use mathlib.Core.HLevel.{is_prop→PathP, ×_prop}
 use Rattle.std.proofs.Math.Bridge.{le_prop}
 use Rattle.std.specs.Int.Signed.{non_neg}
 use Rattle.std.proofs.lemmas.Int.{ints}
 use Rattle.std.proofs.lemmas.Bool.{leb-true, le-leb, false≢true}
-use Rattle.std.proofs.lemmas.Bool.Decides.{nat_tests}
+use Rattle.std.proofs.lemmas.Bool.Decides.{nat_tests, Decides-and}
 use Rattle.std.specs.Result.{result_ok}
+use Rattle.std.specs.Bool.{Decides, one_answer}
+use Rattle.std.specs.Cmp.{IsTotalOrder, Equal-is, unsigned_Decides, signed_Decides}
+use Rattle.std.specs.Cmp.Lexicographic.{slice_cmp, texts_ties, pointwise_decides}
+use Rattle.std.specs.declared.cmp.Ordering.{Ordering}
+use Rattle.std.specs.declared.cmp.Ordering.TheVariants.{Less, Equal, Greater}
+use Rattle.std.specs.Ordering.{nat_cmp, int_eq, is_lt, is_eq, ordering_reverse}
+use Rattle.std.proofs.lemmas.Cmp.{on_total, nat_list_cmp_total, tied_itself}
 use Rattle.protocol.specs.Kind.{Lawful}
 use Rattle.values.specs.declared.point.Point.{Point}
-use Rattle.values.specs.Lexical.{lex_less}
 use Rattle.values.specs.Limits.{max_pressure, max_speed, Limits}
-use Rattle.values.specs.PointKind.{made, new_point, point_word, point_reads, rest_point, point_key, point_kind}
-use Rattle.values.specs.LexicalLaw.{lex_irreflexive, lex_transitive, lex_total}
+use Rattle.values.specs.PointKind.{made, new_point, point_word, point_reads, rest_point, point_key, point_cmp, point_kind}
 
 -- a point is its pressure and its speed
 pub same_point : (p q : Point) → p.pressure ≡ q.pressure → p.speed ≡ q.speed → p ≡ q
@@ -84,7 +89,7 @@ same_from_key p q e =
 
 -- nothing is below the key of rest, and nothing else has that key
 rest_below : (a b c d : ℕ) → d ≤ 1 → (b ≡ 0 → c ≡ 0 → d ≢ 1) → (c ≡ 0 → d ≡ 1) →
-    lex_less (point_key rest_point) (a ∷ (b ∷ (c ∷ (d ∷ [])))) ≡ true
+    is_lt (slice_cmp nat_cmp (point_key rest_point) (a ∷ (b ∷ (c ∷ (d ∷ []))))) ≡ true
 rest_below a b c d small n z = grind (arith, nat_tests)
 
 sign_small : (s : ℤ) → cond (non_neg s) 1 0 ≤ 1
@@ -95,21 +100,56 @@ sign_zero : (s : ℤ) → unsigned_abs s ≡ 0 → ◌≡◌ {A = ℕ} (cond (no
 sign_zero (pos n) e = refl
 sign_zero (negsuc n) e = absurd (omega arith)
 
-rest_least : (p : Point) → (p ≢ rest_point) → lex_less (point_key rest_point) (point_key p) ≡ true
+rest_least : (p : Point) → (p ≢ rest_point) → is_lt (point_cmp rest_point p) ≡ true
 rest_least p n =
     rest_below (p.pressure * unsigned_abs p.speed) p.pressure (unsigned_abs p.speed) (cond (non_neg p.speed) 1 0)
     (sign_small p.speed)
     (λ b c d. n (same_point p rest_point b (same_speed p.speed (pos 0) c d)))
     (sign_zero p.speed)
 
+-- the order of points, and that it tells every two apart
+pub point_total : IsTotalOrder point_cmp
+point_total = on_total point_key nat_list_cmp_total
+
+same_by_order : (p q : Point) → point_cmp p q ≡ Equal → p ≡ q
+same_by_order p q e =
+    let xs = point_key p in
+    let ys = point_key q in
+    same_from_key p q ((pointwise_decides unsigned_Decides xs ys).0 (texts_ties xs ys ∙ ap is_eq e))
+
+one_less : (p q : Point) → (p ≢ q) → (o : Ordering) → point_cmp p q ≡ o →
+    (is_lt o ≡ true) ⊎ (is_lt (ordering_reverse o) ≡ true)
+one_less p q n Less e = inl refl
+one_less p q n Equal e = absurd (n (same_by_order p q e))
+one_less p q n Greater e = inr refl
+
+-- two points are the same if `==` holds, which looks at both numbers, and if neither is less
+fields_decide : (p q : Point) → Decides (nat_eq p.pressure q.pressure && int_eq p.speed q.speed) (p ≡ q)
+fields_decide p q =
+    let d = Decides-and _ _ (unsigned_Decides p.pressure q.pressure) (signed_Decides p.speed q.speed) in
+    (λ e. let h = d.0 e in same_point p q h.0 h.1, λ e. d.1 (ap (λ r. r.pressure) e, ap (λ r. r.speed) e))
+
+order_decides : (p q : Point) → Decides (is_eq (point_cmp p q)) (p ≡ q)
+order_decides p q = (
+  λ e. same_by_order p q ((Equal-is (point_cmp p q)).0 e),
+  λ e. ap is_eq (ap (point_cmp p) (sym e) ∙ tied_itself point_total p),
+)
+
+is_less : (o : Ordering) → is_lt o ≡ true → o ≡ Less
+is_less Less e = refl
+is_less Equal e = cc
+is_less Greater e = cc
+
+pub point_ties : (p q : Point) → (nat_eq p.pressure q.pressure && int_eq p.speed q.speed) ≡ is_eq (point_cmp p q)
+point_ties p q = one_answer {P = p ≡ q} _ _ (fields_decide p q) (order_decides p q)
+
 pub points_lawful : Lawful point_kind
 points_lawful = record {
   reads_word = reads_word;
   word_reads = word_reads;
   silence = refl;
-  total = λ p q n. ⊎_elim
-      (λ e. absurd (n (same_from_key p q e))) (λ h. h) (lex_total (point_key p) (point_key q) refl);
-  irreflexive = λ p. lex_irreflexive (point_key p);
-  transitive = λ p q r. lex_transitive (point_key p) (point_key q) (point_key r);
+  total = λ p q n. rw (point_total.antisymm q p) (one_less p q n (point_cmp p q) refl);
+  irreflexive = λ p. ap is_lt (tied_itself point_total p);
+  transitive = λ p q r a b. ap is_lt (point_total.trans p q r (is_less _ a) (is_less _ b));
   rest_least = rest_least;
 }

@@ -4,7 +4,7 @@ ghost use Rattle.std.proofs.Common.{rules};
 use protocol::Value;
 
 /// Whether the next load stage is held or begun.
-#[derive(Clone, Copy, PartialEq, Eq, Debug)]
+#[derive(Clone, Copy, PartialEq, Eq, PartialOrd, Ord, Debug)]
 pub enum Switch {
     Hold,
     Go,
@@ -12,6 +12,8 @@ pub enum Switch {
 
 impl Value for Switch {
     ghost kind = { switch_kind };
+
+    ghost ordered = { Prim.search rules };
 
     ghost lawful = { Prim.search rules };
 
@@ -28,10 +30,6 @@ impl Value for Switch {
             1 => Some(Switch::Go),
             _ => None,
         }
-    }
-
-    fn less(self, other: Switch) -> bool {
-        self.word() < other.word()
     }
 
     fn rest() -> Switch {

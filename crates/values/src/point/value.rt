@@ -1,10 +1,15 @@
-ghost use Rattle.std.specs.Prelude.{◌≡◌, ◌*◌, Ok, unsigned_abs};
+ghost use Rattle.std.specs.Prelude.{◌≡◌, Ok, unsigned_abs, refl};
+ghost use Rattle.std.proofs.Common.{rules};
+ghost use Rattle.std.specs.Cmp.{partial_order_from_own_ties};
+ghost use Rattle.std.specs.Cmp.Rules.{comparing};
+ghost use Rattle.std.specs.Ordering.{as_partial_cmp};
 ghost use Rattle.values.specs.Limits.{Limits};
-ghost use Rattle.values.specs.PointKind.{point_kind, new_point};
-ghost use Rattle.values.specs.PointLaw.{points_lawful};
+ghost use Rattle.values.specs.PointKind.{point_kind, point_key, point_cmp, new_point};
+ghost use Rattle.values.specs.PointLaw.{points_lawful, point_total, point_ties};
 
 use crate::point::Point;
 use protocol::{Refusal, Value};
+use std::cmp::Ordering;
 
 impl Point {
     /// The point of a pressure in tenths of a bar and a speed in rpm, negative for anticlockwise.
@@ -49,16 +54,44 @@ impl Point {
         i16::unsigned_abs(self.speed)
     }
 
-    // The pressure times the speed without its sign.
-    fn load(self) -> u32
-        ensures { result ≡ self.pressure * unsigned_abs self.speed }
+    // What decides which of two points is less, the first first: the load, the pressure, the speed without its sign,
+    // and at last the sign, the negative one being less.
+    fn key(self) -> [u32; 4]
+        ensures { result ≡ point_key self }
     {
-        u32::from(self.pressure) * u32::from(self.size())
+        let (pressure, size) = (u32::from(self.pressure), u32::from(self.size()));
+        [pressure * size, pressure, size, u32::from(self.speed >= 0)]
+    }
+}
+
+impl Ord for Point {
+    ghost cmp = { point_cmp };
+
+    ghost total = { point_total };
+
+    ghost matches_partial_cmp = { Prim.search (comparing, rules) };
+
+    ghost matches_eq = { point_ties };
+
+    fn cmp(&self, other: &Point) -> Ordering {
+        self.key().cmp(&other.key())
+    }
+}
+
+impl PartialOrd for Point {
+    ghost partial_cmp = { as_partial_cmp point_cmp };
+
+    ghost laws = { partial_order_from_own_ties (Prim.search (comparing, rules)) (Prim.search (comparing, rules)) };
+
+    fn partial_cmp(&self, other: &Point) -> Option<Ordering> {
+        Some(self.cmp(other))
     }
 }
 
 impl Value for Point {
     ghost kind = { point_kind };
+
+    ghost ordered = { λ a b. refl };
 
     ghost lawful = { points_lawful };
 
@@ -75,12 +108,6 @@ impl Value for Point {
         Some(Point::within(pressure as u16, offset as i16 - 6000))
     }
 
-    fn less(self, other: Point) -> bool {
-        // at equal sizes the smaller speed is the negative one
-        (self.load(), self.pressure, self.size(), self.speed)
-            < (other.load(), other.pressure, other.size(), other.speed)
-    }
-
     fn rest() -> Point {
         Point::within(0, 0)
     }
@@ -92,24 +119,25 @@ mod tests {
     use protocol::SILENT;
     use std::test::Fail;
 
-    // The number by which a point is refused, or 0 where it is made.
-    fn refusal(pressure: u64, speed: i64) -> u8 {
-        match Point::new(pressure, speed) {
-            Ok(_) => 0,
-            Err(refusal) => refusal.number(),
-        }
+    // The number by which a point is refused, if it is.
+    fn refusal(pressure: u64, speed: i64) -> Option<u8> {
+        Some(Point::new(pressure, speed).err()?.number())
     }
 
     #[test]
     fn points_at_their_limits(rt: HostRuntime) {
-        assert_eq!(rt; refusal(7000, 6000), 0);
-        assert_eq!(rt; refusal(7000, -6000), 0);
-        assert_eq!(rt; refusal(7001, 0), 6);
-        assert_eq!(rt; refusal(0, 6001), 7);
-        assert_eq!(rt; refusal(0, -6001), 7);
-        assert_eq!(rt; refusal(7001, -6001), 6, "the lowest number that applies");
-        assert_eq!(rt; refusal(u64::MAX, i64::MIN), 6);
-        assert_eq!(rt; refusal(0, i64::MIN), 7);
+        assert_eq!(rt; refusal(7000, 6000), None);
+        assert_eq!(rt; refusal(7000, -6000), None);
+        assert_eq!(rt; refusal(7001, 0), Some(6));
+        assert_eq!(rt; refusal(0, 6001), Some(7));
+        assert_eq!(rt; refusal(0, -6001), Some(7));
+        assert_eq!(rt;
+            refusal(7001, -6001),
+            Some(6),
+            "the lowest number that applies"
+        );
+        assert_eq!(rt; refusal(u64::MAX, i64::MIN), Some(6));
+        assert_eq!(rt; refusal(0, i64::MIN), Some(7));
     }
 
     #[test]
