@@ -19,7 +19,7 @@ use Rattle.protocol.proofs.RowLaw.{said_in, read_in, read_exact}
 use Rattle.protocol.proofs.RunLaw.{answers, only_answer}
 use Rattle.phase_king.specs.declared.PhaseKing.{PhaseKing}
 use Rattle.phase_king.specs.declared.PhaseKing.TheVariants.{Idle, Voting, KingRound, Answered}
-use Rattle.phase_king.specs.PhaseKing.{king_word, after_king, phase_king, phase_begun}
+use Rattle.phase_king.specs.PhaseKing.{phase_of, king_word, after_king, next_phase, phase_king, phase_begun}
 use Rattle.phase_king.specs.PhaseKing.{phase_ended, king_heard, king_said, king_answer}
 
 module _ {V : Type 0} (K : Kind V) (G : Protocol V (V × Bool)) (orderly : Orderly G) where
@@ -37,8 +37,8 @@ module _ {V : Type 0} (K : Kind V) (G : Protocol V (V × Bool)) (orderly : Order
   abbrev kings : (n t p : ℕ) → ℕ
   kings n t p = at n t p (G.rounds n t)
 
-  next_phase : (n t p : ℕ) → at n t (suc p) 0 ≡ suc (kings n t p)
-  next_phase n t p = omega (arith, suc-mul p (span n t))
+  at_next : (n t p : ℕ) → at n t (suc p) 0 ≡ suc (kings n t p)
+  at_next n t p = omega (arith, suc-mul p (span n t))
 
   last : {n t : ℕ} → Takes L n t → L.rounds n t ≡ at n t (suc t) 0
   last {n} {t} h =
@@ -46,12 +46,12 @@ module _ {V : Type 0} (K : Kind V) (G : Protocol V (V × Bool)) (orderly : Order
       let e : (t + 1) * span n t ≡ suc t * span n t = ap (λ x. x * span n t) (add-one t) in omega arith
 
   graded_takes : {n t : ℕ} → Takes L n t → Takes G n t
-  graded_takes {n} {t} h = takes_too h (omega arith) (omega arith) (omega (arith, last h, next_phase n t t))
+  graded_takes {n} {t} h = takes_too h (omega arith) (omega arith) (omega (arith, last h, at_next n t t))
 
   abbrev nest : (p : ℕ) → Setup → Nest G L
   nest p s = record {
-    inside = Voting s p;
-    next = λ a. KingRound s p (K.word a.0) a.1;
+    inside = Voting (phase_of s p);
+    next = λ a. KingRound (phase_of s p) (K.word a.0) a.1;
     says = λ graded. refl;
     hears = λ graded row. refl;
     waits = λ graded. refl;
@@ -66,7 +66,7 @@ module _ {V : Type 0} (K : Kind V) (G : Protocol V (V × Bool)) (orderly : Order
     -- the value after the king's round
     ruled : (p : ℕ) → Option (V × Bool) → V
     ruled p None = K.rest
-    ruled p (Some a) = after_king K s p (K.word a.0) a.1 (rows (kings s.n s.t p))
+    ruled p (Some a) = after_king K (phase_of s p) (K.word a.0) a.1 (rows (kings s.n s.t p))
 
     -- the value held when phase p begins
     held : (p : ℕ) → V
@@ -83,39 +83,38 @@ module _ {V : Type 0} (K : Kind V) (G : Protocol V (V × Bool)) (orderly : Order
 
       -- phase p begins with the value held
       abbrev Ready : (p : ℕ) → Type 0
-      Ready p = after L (L.begun s v) rows (at s.n s.t p 0) ≡ phase_begun K G s p (held p)
+      Ready p = after L (L.begun s v) rows (at s.n s.t p 0) ≡ phase_begun K G (phase_of s p) (held p)
 
       king_round : (p : ℕ) → Ready p → (x : V × Bool) → graded p (held p) ≡ Some x →
-          after L (L.begun s v) rows (kings s.n s.t p) ≡ KingRound s p (K.word x.0) x.1
+          after L (L.begun s v) rows (kings s.n s.t p) ≡ KingRound (phase_of s p) (K.word x.0) x.1
       unfolding graded
       king_round p ready =
           beyond (nest p s) orderly s (held p) graded_admitted (L.begun s v) rows (at s.n s.t p)
           (λ k. add-suc _ k) ready
 
       phase_ends : (p : ℕ) → Ready p →
-          after L (L.begun s v) rows (at s.n s.t (suc p) 0) ≡ phase_ended K G s p (held (suc p))
+          after L (L.begun s v) rows (at s.n s.t (suc p) 0) ≡ phase_ended K G (next_phase (phase_of s p)) (held (suc p))
       unfolding held ruled
       phase_ends p ready =
           let f = graded_late p in
-          ap (after L (L.begun s v) rows) (next_phase s.n s.t p) ∙
+          ap (after L (L.begun s v) rows) (at_next s.n s.t p) ∙
           (ap (λ x. king_heard K G x (rows (kings s.n s.t p))) (king_round p ready f.0 f.1) ∙
-          ap (phase_ended K G s p) (sym (ap (ruled p) f.1)))
+          ap (phase_ended K G (next_phase (phase_of s p))) (sym (ap (ruled p) f.1)))
 
       phase_begins : (p : ℕ) → p ≤ s.t → Ready p
       unfolding held
       phase_begins zero l =
           ap (after L (L.begun s v) rows) (add-zero _ ∙ zero-mul (span s.n s.t)) ∙
-          ap (λ o. unless_refused o Idle (phase_begun K G s 0 v)) (not_refused L s a)
+          ap (λ o. unless_refused o Idle (phase_begun K G (phase_of s 0) v)) (not_refused L s a)
       phase_begins (suc p) l =
           phase_ends p (phase_begins p (omega arith)) ∙
-          (ap (λ b. cond b (phase_begun K G s (p + 1) (held (suc p))) (Answered (K.word (held (suc p)))))
-          (lt-ltb p s.t l) ∙
-          ap (λ q. phase_begun K G s q (held (suc p))) (add-one p))
+          (ap (λ b. phase_ended K G (cond b (Some (phase_of s (p + 1))) None) (held (suc p))) (lt-ltb p s.t l) ∙
+          ap (λ q. phase_begun K G (phase_of s q) (held (suc p))) (add-one p))
 
       ends : after L (L.begun s v) rows (at s.n s.t (suc s.t) 0) ≡ Answered (K.word (held (suc s.t)))
       ends =
           phase_ends s.t (phase_begins s.t (omega arith)) ∙
-          ap (λ b. cond b (phase_begun K G s (s.t + 1) (held (suc s.t))) (Answered (K.word (held (suc s.t)))))
+          ap (λ b. phase_ended K G (cond b (Some (phase_of s (s.t + 1))) None) (held (suc s.t)))
           (le-ltb s.t s.t (omega arith))
 
       -- in each round of phase p
@@ -133,7 +132,7 @@ module _ {V : Type 0} (K : Kind V) (G : Protocol V (V × Bool)) (orderly : Order
           (record {
             unanswered = refl;
             reads = λ row row' same.
-                ap (λ w. phase_ended K G s p (value_of K (cond f.0.1 (K.word f.0.0) w)))
+                ap (λ w. phase_ended K G (next_phase (phase_of s p)) (value_of K (cond f.0.1 (K.word f.0.0) w)))
                 (same p (let third = a.takes.third in omega arith));
           }))
           (cases_lt j (G.rounds s.n s.t))
@@ -146,7 +145,7 @@ module _ {V : Type 0} (K : Kind V) (G : Protocol V (V × Bool)) (orderly : Order
           (λ (h : at s.n s.t p 0 ≤ k).
           let e : k ≡ at s.n s.t p (k - p * span s.n s.t) = omega arith in
           subst⁻¹ (λ x. Underway L s.n s.own (after L (L.begun s v) rows x)) e
-          (in_phase p (k - p * span s.n s.t) (omega arith) (omega (arith, next_phase s.n s.t p))))
+          (in_phase p (k - p * span s.n s.t) (omega arith) (omega (arith, at_next s.n s.t p))))
           (cases_lt k (at s.n s.t p 0))
 
       before_end : (k : ℕ) → k < L.rounds s.n s.t →
@@ -173,8 +172,8 @@ module _ {V : Type 0} (K : Kind V) (G : Protocol V (V × Bool)) (orderly : Order
     where
       over : (x : PhaseKing G.State) (v : V) → king_answer K G x ≡ Some v → Still L x
       over Idle v e = record { says = refl; stays = λ row. refl }
-      over (Voting s p graded) v e = let z : ◌≡◌ {A = ℕ} 0 1 = cc in absurd (omega arith)
-      over (KingRound s p word grade) v e = let z : ◌≡◌ {A = ℕ} 0 1 = cc in absurd (omega arith)
+      over (Voting p graded) v e = let z : ◌≡◌ {A = ℕ} 0 1 = cc in absurd (omega arith)
+      over (KingRound p word grade) v e = let z : ◌≡◌ {A = ℕ} 0 1 = cc in absurd (omega arith)
       over (Answered word) v e = record { says = refl; stays = λ row. refl }
 
   module _ (lawful : Lawful K) (law : GradedLaw G) (n t : ℕ) (R : Run L n t) where
@@ -190,7 +189,7 @@ module _ {V : Type 0} (K : Kind V) (G : Protocol V (V × Bool)) (orderly : Order
         omega (
           arith,
           last R.takes,
-          next_phase n t p,
+          at_next n t p,
           mul-le-mul_right {m = suc p} {n = suc t} (span n t) (omega arith),
         )
 
@@ -207,7 +206,7 @@ module _ {V : Type 0} (K : Kind V) (G : Protocol V (V × Bool)) (orderly : Order
     phase p l = stretch orderly (phase_run p l)
 
     says : (p j : ℕ) (l : p ≤ t) (x : V × Bool) → Correct R j → answered (phase p l) j ≡ Some x →
-        said_in R (kings n t p) j ≡ king_word (station n t j) p (K.word x.0)
+        said_in R (kings n t p) j ≡ king_word (phase_of (station n t j) p) (K.word x.0)
     says p j l x c e = ap (king_said K G) (goes_on orderly (phase_run p l) j x c e)
 
     holds_next : (p j : ℕ) (l : p ≤ t) (x : V × Bool) → Correct R j → answered (phase p l) j ≡ Some x →

@@ -8,53 +8,64 @@ use Rattle.protocol.specs.Protocol.{Protocol, saturated}
 use Rattle.protocol.specs.Admission.{refusal, unless_refused}
 use Rattle.protocol.specs.Nest.{on_answer}
 use Rattle.protocol.specs.Words.{silent, heard_at}
+use Rattle.phase_king.specs.declared.phase.Phase.{Phase}
 use Rattle.phase_king.specs.declared.PhaseKing.{PhaseKing}
 use Rattle.phase_king.specs.declared.PhaseKing.TheVariants.{Idle, Voting, KingRound, Answered}
 
+-- phase p at a station
+abbrev pub phase_of : Setup → (p : ℕ) → Phase
+phase_of s p = record { setup = s; king = p }
+
 -- what a station with this graded value's word says in the king's round
-abbrev pub king_word : Setup → (phase word : ℕ) → ℕ
-king_word s phase word = cond (s.own == phase) word silent
+abbrev pub king_word : Phase → (word : ℕ) → ℕ
+king_word p word = cond (p.setup.own == p.king) word silent
 
 -- the value with which it leaves that round: with grade 1 its graded value,
 -- with grade 0 what the king's place reads as, or rest
-abbrev pub after_king : {V : Type 0} → Kind V → Setup → (phase word : ℕ) → (grade : Bool) → List ℕ → V
-after_king K s phase word grade row =
-    value_of K (cond grade word (heard_at s.own (king_word s phase word) row phase))
+abbrev pub after_king : {V : Type 0} → Kind V → Phase → (word : ℕ) → (grade : Bool) → List ℕ → V
+after_king K p word grade row =
+    value_of K (cond grade word (heard_at p.setup.own (king_word p word) row p.king))
+
+-- phase t is the last one
+abbrev pub next_phase : Phase → Option Phase
+next_phase p = cond (nat_lt p.king p.setup.t) (Some (phase_of p.setup (p.king + 1))) None
 
 module _ {V : Type 0} (K : Kind V) (G : Protocol V (V × Bool)) where
   abbrev pub king_rounds : (n t : ℕ) → ℕ
   king_rounds n t = saturated ((t + 1) * (G.rounds n t + 1))
 
   -- a phase begins with the present value
-  abbrev pub phase_begun : Setup → (phase : ℕ) → V → PhaseKing G.State
-  phase_begun s phase v = Voting s phase (G.begun s v)
+  abbrev pub phase_begun : Phase → V → PhaseKing G.State
+  phase_begun p v = Voting p (G.begun p.setup v)
 
   abbrev pub king_begun : Setup → V → PhaseKing G.State
   king_begun s v =
-      unless_refused (refusal G.max_stations G.max_faulty (king_rounds s.n s.t) s) Idle (phase_begun s 0 v)
+      unless_refused (refusal G.max_stations G.max_faulty (king_rounds s.n s.t) s) Idle
+      (phase_begun (phase_of s 0) v)
 
   -- a phase ends with a value: the next one begins, or it is the answer
-  abbrev pub phase_ended : Setup → (phase : ℕ) → V → PhaseKing G.State
-  phase_ended s phase v = cond (nat_lt phase s.t) (phase_begun s (phase + 1) v) (Answered (K.word v))
+  abbrev pub phase_ended : (next : Option Phase) → V → PhaseKing G.State
+  phase_ended (Some p) v = phase_begun p v
+  phase_ended None v = Answered (K.word v)
 
   abbrev pub king_heard : PhaseKing G.State → List ℕ → PhaseKing G.State
   king_heard Idle row = Idle
-  king_heard (Voting s phase graded) row =
+  king_heard (Voting p graded) row =
       let next = G.heard graded row in
-      on_answer (G.answer next) (Voting s phase next) (λ a. KingRound s phase (K.word a.0) a.1)
-  king_heard (KingRound s phase word grade) row = phase_ended s phase (after_king K s phase word grade row)
+      on_answer (G.answer next) (Voting p next) (λ a. KingRound p (K.word a.0) a.1)
+  king_heard (KingRound p word grade) row = phase_ended (next_phase p) (after_king K p word grade row)
   king_heard (Answered word) row = Answered word
 
   abbrev pub king_said : PhaseKing G.State → ℕ
   king_said Idle = silent
-  king_said (Voting s phase graded) = G.said graded
-  king_said (KingRound s phase word grade) = king_word s phase word
+  king_said (Voting p graded) = G.said graded
+  king_said (KingRound p word grade) = king_word p word
   king_said (Answered word) = silent
 
   abbrev pub king_answer : PhaseKing G.State → Option V
   king_answer Idle = None
-  king_answer (Voting s phase graded) = None
-  king_answer (KingRound s phase word grade) = None
+  king_answer (Voting p graded) = None
+  king_answer (KingRound p word grade) = None
   king_answer (Answered word) = Some (value_of K word)
 
   abbrev pub phase_king : Protocol V V
@@ -72,6 +83,6 @@ module _ {V : Type 0} (K : Kind V) (G : Protocol V (V × Bool)) where
 -- the protocol's state that a machine is in, where `f` tells that of the machine below
 abbrev pub king_state : {S T : Type 0} → (f : S → T) → PhaseKing S → PhaseKing T
 king_state f Idle = Idle
-king_state f (Voting s phase graded) = Voting s phase (f graded)
-king_state f (KingRound s phase word grade) = KingRound s phase word grade
+king_state f (Voting p graded) = Voting p (f graded)
+king_state f (KingRound p word grade) = KingRound p word grade
 king_state f (Answered word) = Answered word

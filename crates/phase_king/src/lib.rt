@@ -4,28 +4,41 @@
 
 ghost use Rattle.std.specs.Prelude.{◌≡◌, ◌+◌, ◌*◌};
 ghost use Rattle.protocol.specs.Protocol.{saturated};
-ghost use Rattle.phase_king.specs.PhaseKing.{king_word, after_king, phase_king, king_state};
+ghost use Rattle.phase_king.specs.PhaseKing.{phase_king, phase_begun, king_state};
 
-use protocol::{FullVote, GradedVote, MANY_ROUNDS, Machine, SILENT, Setup, Value, heard_at};
+mod phase;
+
+pub use phase::Phase;
+use protocol::{FullVote, GradedVote, MANY_ROUNDS, Machine, SILENT, Setup, Value};
 
 /// Consensus over a graded vote: in each of t + 1 phases a graded vote, then a round in which the phase's king speaks.
 #[derive(Clone, Copy)]
 pub enum PhaseKing<G> {
     Idle,
     Voting {
-        setup: Setup,
-        phase: usize,
+        phase: Phase,
         graded: G,
     },
     KingRound {
-        setup: Setup,
-        phase: usize,
+        phase: Phase,
         word: u64,
         grade: bool,
     },
     Answered {
         word: u64,
     },
+}
+
+impl<G: GradedVote> PhaseKing<G> {
+    // A phase begins with the present value.
+    fn begin_phase(phase: Phase, value: G::Value) -> PhaseKing<G>
+        ensures { king_state G.Machine.state result ≡ phase_begun G.Value.kind G.Machine.model phase value }
+    {
+        PhaseKing::Voting {
+            phase,
+            graded: G::begin(phase.setup, value),
+        }
+    }
 }
 
 // The rounds of t + 1 phases, each of a graded vote and one round more.
@@ -36,22 +49,6 @@ fn phase_rounds(t: usize, graded: usize) -> usize
     phases
         .saturating_mul(graded.saturating_add(1))
         .min(MANY_ROUNDS)
-}
-
-// What is said in the king's round: by the king the word of its graded value, by all others nothing.
-fn king_word(setup: Setup, phase: usize, word: u64) -> u64
-    ensures { result ≡ king_word setup phase word }
-{
-    if setup.own == phase { word } else { SILENT }
-}
-
-// The value after the king's round: the king's for who has grade 0, the own one for who has grade 1.
-fn after_king<V: Value>(setup: Setup, phase: usize, word: u64, grade: bool, row: &[u64]) -> V
-    ensures { result ≡ after_king V.Value.kind setup phase word grade row.now }
-{
-    let king = heard_at(setup.own, king_word(setup, phase, word), row, phase);
-    let word = if grade { word } else { king };
-    V::read_or_rest(word)
 }
 
 impl<G: GradedVote> Machine for PhaseKing<G> {
@@ -78,60 +75,35 @@ impl<G: GradedVote> Machine for PhaseKing<G> {
     fn begin(setup: Setup, value: G::Value) -> PhaseKing<G> {
         match Self::refusal(setup) {
             Some(_) => PhaseKing::Idle,
-            None => PhaseKing::Voting {
-                setup,
-                phase: 0,
-                graded: G::begin(setup, value),
-            },
+            None => PhaseKing::begin_phase(Phase { setup, king: 0 }, value),
         }
     }
 
     fn say(&self) -> u64 {
         match self {
             PhaseKing::Voting { graded, .. } => graded.say(),
-            PhaseKing::KingRound {
-                setup,
-                phase,
-                word,
-                ..
-            } => king_word(*setup, *phase, *word),
+            PhaseKing::KingRound { phase, word, .. } => phase.king_word(*word),
             _ => SILENT,
         }
     }
 
     fn hear(&mut self, row: &[u64]) {
         match self {
-            PhaseKing::Voting {
-                setup,
-                phase,
-                graded,
-            } => {
+            PhaseKing::Voting { phase, graded } => {
                 graded.hear(row);
                 if let Some((value, grade)) = graded.answer() {
                     *self = PhaseKing::KingRound {
-                        setup: *setup,
                         phase: *phase,
                         word: value.word(),
                         grade,
                     };
                 }
             }
-            PhaseKing::KingRound {
-                setup,
-                phase,
-                word,
-                grade,
-            } => {
-                let (setup, phase) = (*setup, *phase);
-                let value = after_king::<G::Value>(setup, phase, *word, *grade, row);
-                *self = if phase < setup.t {
-                    PhaseKing::Voting {
-                        setup,
-                        phase: phase + 1,
-                        graded: G::begin(setup, value),
-                    }
-                } else {
-                    PhaseKing::Answered { word: value.word() }
+            PhaseKing::KingRound { phase, word, grade } => {
+                let value = phase.after_king::<G::Value>(*word, *grade, row);
+                *self = match phase.next() {
+                    Some(phase) => PhaseKing::begin_phase(phase, value),
+                    None => PhaseKing::Answered { word: value.word() },
                 };
             }
             _ => {}

@@ -1,0 +1,47 @@
+ghost use Rattle.std.specs.Prelude.{◌≡◌};
+ghost use Rattle.phase_king.specs.PhaseKing.{king_word, after_king, next_phase};
+
+use protocol::{SILENT, Setup, Value, heard_at};
+
+/// One phase at a station: the station with this number is king.
+#[derive(Clone, Copy)]
+pub struct Phase {
+    pub setup: Setup,
+    pub king: usize,
+}
+
+impl Phase {
+    // What is said in the king's round: by the king the word of its graded value, by all others nothing.
+    pub(crate) fn king_word(self, word: u64) -> u64
+        ensures { result ≡ king_word self word }
+    {
+        if self.setup.own == self.king {
+            word
+        } else {
+            SILENT
+        }
+    }
+
+    // The value after the king's round: the king's for who has grade 0, the own one for who has grade 1.
+    pub(crate) fn after_king<V: Value>(self, word: u64, grade: bool, row: &[u64]) -> V
+        ensures { result ≡ after_king V.Value.kind self word grade row.now }
+    {
+        let king = heard_at(self.setup.own, self.king_word(word), row, self.king);
+        let word = if grade { word } else { king };
+        V::read_or_rest(word)
+    }
+
+    // The phase of the next king, or none after the last, which is that of king t.
+    pub(crate) fn next(self) -> Option<Phase>
+        ensures { result ≡ next_phase self }
+    {
+        if self.king < self.setup.t {
+            Some(Phase {
+                king: self.king + 1,
+                ..self
+            })
+        } else {
+            None
+        }
+    }
+}
