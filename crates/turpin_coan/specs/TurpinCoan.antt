@@ -1,7 +1,7 @@
 -- Turpin-Coan: full, over any graded vote of g rounds on a kind and any full vote of b rounds on the switch, in g + b
 -- rounds. The switch vote is about whether the graded value is taken: it is begun with Go for grade 1, else with Hold.
 -- The answer is the graded value if the switch vote answers Go, else rest.
-use Rattle.std.specs.Prelude.{ℕ, ◌+◌, min, Bool, true, false, List, Some, None, Option}
+use Rattle.std.specs.Prelude.{ℕ, ◌+◌, min, Bool, List, Some, None, Option}
 use Rattle.protocol.specs.declared.setup.Setup.{Setup}
 use Rattle.protocol.specs.Kind.{Kind, value_of}
 use Rattle.protocol.specs.Protocol.{Protocol, saturated}
@@ -10,13 +10,13 @@ use Rattle.protocol.specs.Nest.{on_answer}
 use Rattle.protocol.specs.Words.{silent}
 use Rattle.values.specs.declared.switch.Switch.{Switch}
 use Rattle.values.specs.declared.switch.Switch.TheVariants.{Hold, Go}
+use Rattle.values.specs.SwitchKind.{switch_of}
 use Rattle.turpin_coan.specs.declared.TurpinCoan.{TurpinCoan}
 use Rattle.turpin_coan.specs.declared.TurpinCoan.TheVariants.{Idle, Grading, Deciding, Answered}
 
--- what is entered into the switch vote
+-- what is entered into the switch vote: Go for grade 1 (true), else Hold
 abbrev pub entry_for : (grade : Bool) → Switch
-entry_for true = Go
-entry_for false = Hold
+entry_for grade = switch_of grade
 
 -- the word of the answer
 abbrev pub decided : {V : Type 0} → Kind V → (word : ℕ) → Switch → ℕ

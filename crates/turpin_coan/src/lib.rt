@@ -3,7 +3,7 @@
 #![tactic(auto)]
 
 ghost use Rattle.std.specs.Prelude.{◌≡◌};
-ghost use Rattle.turpin_coan.specs.TurpinCoan.{entry_for, decided, turpin_coan, tc_state};
+ghost use Rattle.turpin_coan.specs.TurpinCoan.{decided, turpin_coan, tc_state};
 
 use protocol::{FullVote, GradedVote, MANY_ROUNDS, Machine, SILENT, Setup, Value};
 use values::Switch;
@@ -15,13 +15,6 @@ pub enum TurpinCoan<G, B> {
     Grading { setup: Setup, graded: G },
     Deciding { word: u64, switch: B },
     Answered { word: u64 },
-}
-
-// What a station enters into the switch vote.
-fn entry_for(grade: bool) -> Switch
-    ensures { result ≡ entry_for grade }
-{
-    if grade { Switch::Go } else { Switch::Hold }
 }
 
 // The word of the answer: the graded value's, or that of rest.
@@ -80,7 +73,7 @@ impl<G: GradedVote, B: FullVote + Machine<Value = Switch>> Machine for TurpinCoa
                 if let Some((value, grade)) = graded.answer() {
                     *self = TurpinCoan::Deciding {
                         word: value.word(),
-                        switch: B::begin(*setup, entry_for(grade)),
+                        switch: B::begin(*setup, Switch::from(grade)),
                     };
                 }
             }

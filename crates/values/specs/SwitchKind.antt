@@ -1,8 +1,13 @@
 -- The switch as a kind of value: Hold is 0 and rest, Go is 1.
-use Rattle.std.specs.Prelude.{ℕ, cond, Some, None, Option, ◌==◌, nat_lt}
+use Rattle.std.specs.Prelude.{ℕ, Bool, true, false, cond, Some, None, Option, ◌==◌, nat_lt}
 use Rattle.protocol.specs.Kind.{Kind}
 use Rattle.values.specs.declared.switch.Switch.{Switch}
 use Rattle.values.specs.declared.switch.Switch.TheVariants.{Hold, Go}
+
+-- the switch that says whether to go
+abbrev pub switch_of : (go : Bool) → Switch
+switch_of true = Go
+switch_of false = Hold
 
 abbrev pub switch_word : Switch → ℕ
 switch_word Hold = 0

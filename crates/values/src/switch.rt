@@ -1,4 +1,5 @@
-ghost use Rattle.values.specs.SwitchKind.{switch_kind};
+ghost use Rattle.std.specs.Prelude.{◌≡◌};
+ghost use Rattle.values.specs.SwitchKind.{switch_kind, switch_of};
 ghost use Rattle.std.proofs.Common.{rules};
 
 use protocol::Value;
@@ -8,6 +9,15 @@ use protocol::Value;
 pub enum Switch {
     Hold,
     Go,
+}
+
+// True is go.
+impl From<bool> for Switch {
+    ghost from_gives = { λ go s. s ≡ switch_of go };
+
+    fn from(go: bool) -> Switch {
+        if go { Switch::Go } else { Switch::Hold }
+    }
 }
 
 impl Value for Switch {
