@@ -96,7 +96,7 @@ impl<F: FullVote, A: Form<F::Value>> Machine for StepDown<F, A> {
     }
 
     fn answer(&self) -> Option<A::Answer> {
-        Some(A::give(self.full.answer()?))
+        self.full.answer().map(|value| A::give(value))
     }
 
     fn orderly() {
