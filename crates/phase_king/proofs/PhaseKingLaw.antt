@@ -2,8 +2,8 @@
 use Rattle.std.proofs.Common.{◌≡◌, ℕ, zero, suc, ◌+◌, ◌-◌, ◌*◌, ◌<◌, ◌≤◌, Bool, true, false, cond, List, Some, None, Option, sym, refl, ap, ◌∙◌, ⊎_elim, add-zero, add-suc, mul-le-mul_right, suc-mul, zero-mul, add-one, arith}
 use mathlib.Core.Path.{subst⁻¹}
 use Rattle.std.proofs.lemmas.Bool.{cases_lt, lt-ltb, le-ltb, eq-eqb}
+use Rattle.std.proofs.lemmas.Option.{none-some}
 use Rattle.protocol.specs.declared.setup.Setup.{Setup}
-use Rattle.protocol.specs.Admission.{unless_refused}
 use Rattle.protocol.specs.Kind.{Kind, Lawful, value_of}
 use Rattle.protocol.specs.Laws.{GradedLaw, FullLaw}
 use Rattle.protocol.specs.Nest.{Nest, Begins}
@@ -11,9 +11,9 @@ use Rattle.protocol.specs.Orderly.{Orderly, Still}
 use Rattle.protocol.specs.Protocol.{Protocol, Takes, Admitted, after}
 use Rattle.protocol.specs.Run.{Run, Correct, Unanimous, reached, answered, station}
 use Rattle.protocol.specs.Words.{silent, heard_at}
-use Rattle.protocol.proofs.AdmissionLaw.{not_refused, takes_too, station_admitted}
+use Rattle.protocol.proofs.AdmissionLaw.{not_idle, takes_too, station_admitted}
 use Rattle.protocol.proofs.KindLaw.{value_word}
-use Rattle.protocol.proofs.NestLaw.{Underway, beyond, underway, stretch, goes_on}
+use Rattle.protocol.proofs.NestLaw.{Underway, beyond, underway_too, stretch, goes_on}
 use Rattle.protocol.proofs.QuorumLaw.{correct_among}
 use Rattle.protocol.proofs.RowLaw.{said_in, read_in, read_exact}
 use Rattle.protocol.proofs.RunLaw.{answers, only_answer}
@@ -105,7 +105,7 @@ module _ {V : Type 0} (K : Kind V) (G : Protocol V (V × Bool)) (orderly : Order
       unfolding held
       phase_begins zero l =
           ap (after L (L.begun s v) rows) (add-zero _ ∙ zero-mul (span s.n s.t)) ∙
-          ap (λ o. unless_refused o Idle (phase_begun K G (phase_of s 0) v)) (not_refused L s a)
+          not_idle L s Idle (phase_begun K G (phase_of s 0) v) a
       phase_begins (suc p) l =
           phase_ends p (phase_begins p (omega arith)) ∙
           (ap (λ b. phase_ended K G (cond b (Some (phase_of s (p + 1))) None) (held (suc p))) (lt-ltb p s.t l) ∙
@@ -120,22 +120,16 @@ module _ {V : Type 0} (K : Kind V) (G : Protocol V (V × Bool)) (orderly : Order
       -- in each round of phase p
       in_phase : (p j : ℕ) → p ≤ s.t → j ≤ G.rounds s.n s.t →
           Underway L s.n s.own (after L (L.begun s v) rows (at s.n s.t p j))
-      in_phase p j l m = ⊎_elim
-          (underway (nest p s) orderly s (held p) graded_admitted (L.begun s v) rows (at s.n s.t p)
-          (λ k. add-suc _ k) (phase_begins p l) j)
-          (λ (h : G.rounds s.n s.t ≤ j).
-          let e : j ≡ G.rounds s.n s.t = omega arith in
-          let f = graded_late p in
-          subst⁻¹ (Underway L s.n s.own)
-          (ap (λ k. after L (L.begun s v) rows (at s.n s.t p k)) e ∙
-          king_round p (phase_begins p l) f.0 f.1)
-          (record {
+      in_phase p j l =
+          underway_too (nest p s) orderly s (held p) graded_admitted (L.begun s v) rows (at s.n s.t p)
+          (λ k. add-suc _ k) (phase_begins p l)
+          (λ x. record {
             unanswered = refl;
             reads = λ row row' same.
-                ap (λ w. phase_ended K G (next_phase (phase_of s p)) (value_of K (cond f.0.1 (K.word f.0.0) w)))
+                ap (λ w. phase_ended K G (next_phase (phase_of s p)) (value_of K (cond x.1 (K.word x.0) w)))
                 (same p (let third = a.takes.third in omega arith));
-          }))
-          (cases_lt j (G.rounds s.n s.t))
+          })
+          j
 
       before : (p k : ℕ) → p ≤ suc s.t → k < at s.n s.t p 0 →
           Underway L s.n s.own (after L (L.begun s v) rows k)
@@ -171,10 +165,8 @@ module _ {V : Type 0} (K : Kind V) (G : Protocol V (V × Bool)) (orderly : Order
   }
     where
       over : (x : PhaseKing G.State) (v : V) → king_answer K G x ≡ Some v → Still L x
-      over Idle v e = record { says = refl; stays = λ row. refl }
-      over (Voting p graded) v e = let z : ◌≡◌ {A = ℕ} 0 1 = cc in absurd (omega arith)
-      over (KingRound p word grade) v e = let z : ◌≡◌ {A = ℕ} 0 1 = cc in absurd (omega arith)
       over (Answered word) v e = record { says = refl; stays = λ row. refl }
+      over x v e = absurd (none-some v e)
 
   module _ (lawful : Lawful K) (law : GradedLaw G) (n t : ℕ) (R : Run L n t) where
     admitted : (j : ℕ) → Correct R j → Admitted L (station n t j)

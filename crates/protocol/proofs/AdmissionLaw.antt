@@ -1,8 +1,8 @@
 -- A setup is refused by the lowest number that applies, and not at all within the limits.
-use Rattle.std.proofs.Common.{◌≡◌, ℕ, ◌*◌, ◌<◌, ◌≤◌, ltb, leb, None, refl, arith}
+use Rattle.std.proofs.Common.{◌≡◌, ℕ, ◌*◌, ◌<◌, ◌≤◌, ltb, leb, None, refl, ap, arith}
 use Rattle.std.proofs.lemmas.Bool.{or_from, or_parts, le-ltb, lt-leb, ltb-false, leb-false}
 use Rattle.protocol.specs.declared.setup.Setup.{Setup}
-use Rattle.protocol.specs.Admission.{setup_tests, LowestAdmission}
+use Rattle.protocol.specs.Admission.{setup_tests, LowestAdmission, unless_refused}
 use Rattle.protocol.specs.Protocol.{Protocol, Takes, Admitted, ExactAdmission, refused}
 use Rattle.protocol.specs.Run.{station}
 use Rattle.protocol.proofs.RefusalLaw.{first_lowest, none_applies}
@@ -36,6 +36,10 @@ not_refused P s a =
       lt-leb s.n s.own a.own_number,
       le-ltb 65535 (P.rounds s.n s.t) h.in_time,
     )
+
+pub not_idle : {V A S : Type 0} (P : Protocol V A) (s : Setup) (idle begun : S) → Admitted P s →
+    unless_refused (refused P s) idle begun ≡ begun
+not_idle P s idle begun a = ap (λ o. unless_refused o idle begun) (not_refused P s a)
 
 taken : {V A : Type 0} (P : Protocol V A) (s : Setup) → refused P s ≡ None → Admitted P s
 taken P s e =

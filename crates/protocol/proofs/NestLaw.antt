@@ -1,6 +1,7 @@
 -- A vote that runs inside a layer: one station whatever it hears, and a stretch of a run.
-use Rattle.std.proofs.Common.{◌≡◌, ℕ, zero, suc, ◌<◌, ◌≤◌, List, Some, None, sym, refl, ap, ◌∙◌, arith}
+use Rattle.std.proofs.Common.{◌≡◌, ℕ, zero, suc, ◌<◌, ◌≤◌, List, Some, None, sym, refl, ap, ◌∙◌, ⊎_elim, arith}
 use mathlib.Core.Path.{subst⁻¹}
+use Rattle.std.proofs.lemmas.Bool.{cases_lt}
 use Rattle.protocol.specs.declared.setup.Setup.{Setup}
 use Rattle.protocol.specs.Protocol.{Protocol, Admitted, after}
 use Rattle.protocol.specs.Orderly.{Orderly, ReadsOnly}
@@ -56,6 +57,17 @@ module _ {V A W B : Type 0} {P : Protocol V A} {L : Protocol W B} (N : Nest P L)
           N.hears (below k) row ∙
           (ap (λ x. on_answer (P.answer x) (N.inside x) N.next) same ∙ sym (N.hears (below k) row'));
     })
+
+    -- and one round longer, where the layer goes on with a round of its own
+    pub underway_too : ((a : A) → Underway L s.n s.own (N.next a)) → (k : ℕ) → k ≤ last →
+        Underway L s.n s.own (after L start rows (at k))
+    underway_too one_more k l = ⊎_elim
+        (underway k)
+        (λ (h : last ≤ k).
+        let e : k ≡ last = omega arith in
+        let f = orderly.late s v (λ i. rows (at i)) admitted in
+        subst⁻¹ (Underway L s.n s.own) (ap (λ i. after L start rows (at i)) e ∙ beyond f.0 f.1) (one_more f.0))
+        (cases_lt k last)
 
 module _ {V A W B : Type 0} {P : Protocol V A} {L : Protocol W B} (orderly : Orderly P) {n t : ℕ} {R : Run L n t}
     {N : ℕ → Nest P L} {at : ℕ → ℕ} {entry : ℕ → V} (b : Begins R N at entry) where

@@ -2,6 +2,7 @@
 use Rattle.std.proofs.Common.{◌≡◌, ℕ, zero, suc, true, List, Some, None, Option, sym, refl, ap, ◌∙◌, inl, arith}
 use mathlib.Core.Path.{subst⁻¹}
 use Rattle.std.specs.Option.{option_map}
+use Rattle.std.proofs.lemmas.Option.{none-some}
 use Rattle.protocol.specs.declared.setup.Setup.{Setup}
 use Rattle.protocol.specs.Laws.{WeakLaw, GradedLaw, FullLaw}
 use Rattle.protocol.specs.Orderly.{Orderly, ReadsOnly}
@@ -45,7 +46,7 @@ module _ {V A B : Type 0} (f : A → B) (P : Protocol V A) where
   }
     where
       mapped_some : (o : Option A) (b : B) → option_map f o ≡ Some b → (a : A) × (o ≡ Some a)
-      mapped_some None b e = let z : ◌≡◌ {A = ℕ} 0 1 = cc in absurd (omega arith)
+      mapped_some None b e = absurd (none-some b e)
       mapped_some (Some a) b e = (a, refl)
 
   -- a run of the vote that steps down is one of the full vote

@@ -2,8 +2,8 @@
 use Rattle.std.proofs.Common.{◌≡◌, ℕ, ◌+◌, ◌-◌, ◌<◌, ◌≤◌, Bool, true, false, ◌&&◌, List, Some, None, Option, sym, refl, ap, ◌∙◌, ⊎_elim, add-zero, add-suc, arith}
 use mathlib.Core.Path.{subst⁻¹}
 use Rattle.std.proofs.lemmas.Bool.{cases_lt, and_parts}
+use Rattle.std.proofs.lemmas.Option.{none-some}
 use Rattle.protocol.specs.declared.setup.Setup.{Setup}
-use Rattle.protocol.specs.Admission.{unless_refused}
 use Rattle.protocol.specs.Kind.{Kind, Lawful, value_of}
 use Rattle.protocol.specs.Laws.{GradedLaw, FullLaw}
 use Rattle.protocol.specs.Nest.{Nest, Begins}
@@ -11,7 +11,7 @@ use Rattle.protocol.specs.Orderly.{Orderly, Still}
 use Rattle.protocol.specs.Protocol.{Protocol, Takes, Admitted, after}
 use Rattle.protocol.specs.Run.{Run, Correct, Unanimous, reached, answered, station}
 use Rattle.protocol.specs.Words.{silent}
-use Rattle.protocol.proofs.AdmissionLaw.{not_refused, takes_too, station_admitted}
+use Rattle.protocol.proofs.AdmissionLaw.{not_idle, takes_too, station_admitted}
 use Rattle.protocol.proofs.KindLaw.{value_word}
 use Rattle.protocol.proofs.NestLaw.{Underway, beyond, underway, stretch, goes_on}
 use Rattle.protocol.proofs.PlacesLaw.{some_or_none}
@@ -63,7 +63,7 @@ module _ {V : Type 0} (K : Kind V) (G : Protocol V (V × Bool)) (orderly : Order
     switch_admitted = record { takes = switch_takes a.takes; own_number = a.own_number }
 
     begins : L.begun s v ≡ Grading s (G.begun s v)
-    begins = ap (λ o. unless_refused o Idle (Grading s (G.begun s v))) (not_refused L s a)
+    begins = not_idle L s Idle (Grading s (G.begun s v)) a
 
     -- what the graded vote answers
     graded_late : (x : V × Bool) × (G.answer (after G (G.begun s v) rows (G.rounds s.n s.t)) ≡ Some x)
@@ -118,10 +118,8 @@ module _ {V : Type 0} (K : Kind V) (G : Protocol V (V × Bool)) (orderly : Order
   }
     where
       over : (x : TurpinCoan G.State B.State) (v : V) → tc_answer K G B x ≡ Some v → Still L x
-      over Idle v e = record { says = refl; stays = λ row. refl }
-      over (Grading s graded) v e = let z : ◌≡◌ {A = ℕ} 0 1 = cc in absurd (omega arith)
-      over (Deciding word switch) v e = let z : ◌≡◌ {A = ℕ} 0 1 = cc in absurd (omega arith)
       over (Answered word) v e = record { says = refl; stays = λ row. refl }
+      over x v e = absurd (none-some v e)
 
   -- the two parts of a graded answer
   answer_word : Option (V × Bool) → ℕ
@@ -202,7 +200,7 @@ module _ {V : Type 0} (K : Kind V) (G : Protocol V (V × Bool)) (orderly : Order
         zero f k d = sym (ap (λ b. b && grade_of (answered graded k)) d.1) ∙ f k d.0
 
         never : Go ≡ Hold → ⊥
-        never z = let one : ◌≡◌ {A = ℕ} 0 1 = cc in omega arith
+        never z = grind arith
 
     -- all answer what one value and the decision make
     agree : (i j : ℕ) → Correct R i → Correct R j → (v : V) × ((answered R i ≡ Some v) × (answered R j ≡ Some v))
