@@ -1,5 +1,5 @@
 -- Words of a lawful kind of value.
-use Rattle.std.proofs.Common.{◌≡◌, ℕ, Some, None, Option, unwrap_or, sym, ap, arith}
+use Rattle.std.proofs.Common.{◌≡◌, Some, None, Option, unwrap_or, sym, ap, arith}
 use Rattle.protocol.specs.Words.{silent}
 use Rattle.protocol.specs.Kind.{Kind, Lawful, word_of, value_of}
 
@@ -15,7 +15,7 @@ module _ {V : Type 0} (K : Kind V) (lawful : Lawful K) where
       let a = lawful.silence in
       let b = lawful.reads_word v in
       let c = ap K.reads e in
-      let z : ◌≡◌ {A = ℕ} 0 1 = cc in omega arith
+      grind arith
 
   pub value_word : (v : V) → value_of K (K.word v) ≡ v
   value_word v = ap (λ o. unwrap_or o K.rest) (lawful.reads_word v)

@@ -27,7 +27,7 @@ module _ (x : Bool × Refusal) (xs : Tests) where
     applies = λ r f. inl (e, is r f);
     lowest = λ r q f a. rw (← is r f) (⊎_elim
         (λ g. rw g.1 (omega arith)) (from_applies (number x.1) xs up q) a);
-    none = λ f. let g = given in let z : ◌≡◌ {A = ℕ} 0 1 = cc in absurd (omega arith);
+    none = λ f. let g = given in absurd (grind arith);
   }
     where
       given : first_refusal (x ∷ xs) ≡ Some x.1
@@ -52,7 +52,7 @@ module _ (x : Bool × Refusal) (xs : Tests) where
 
 pub first_lowest : (xs : Tests) → ascending xs ≡ true → LowestRefusal xs
 first_lowest [] up = record {
-  applies = λ r e. let z : ◌≡◌ {A = ℕ} 0 1 = cc in absurd (omega arith);
+  applies = λ r e. absurd (grind arith);
   lowest = λ r q e a. absurd a;
   none = λ e q a. a;
 }
@@ -70,6 +70,6 @@ none_applies [] e = tt
 none_applies (x ∷ xs) e = ⊎_elim
     (λ t.
     let g : first_refusal (x ∷ xs) ≡ Some x.1 = ap (λ b. cond b (Some x.1) (first_refusal xs)) t in
-    let z : ◌≡◌ {A = ℕ} 0 1 = cc in absurd (omega arith))
+    absurd (grind arith))
     (λ t. (t, none_applies xs (sym (ap (λ b. cond b (Some x.1) (first_refusal xs)) t) ∙ e)))
     (cases_Bool x.0)

@@ -1,5 +1,5 @@
 -- Every station of a run has an answer, and only one.
-use Rattle.std.proofs.Common.{◌≡◌, ℕ, ◌<◌, Some, Option, sym, ◌∙◌}
+use Rattle.std.proofs.Common.{◌≡◌, ℕ, ◌<◌, Some, Option}
 use Rattle.protocol.specs.Orderly.{Orderly}
 use Rattle.protocol.specs.Protocol.{Protocol}
 use Rattle.protocol.specs.Run.{Run, answered, station}
@@ -11,7 +11,4 @@ answers {n = n} {t = t} orderly R i l =
     orderly.late (station n t i) (R.entry i) (R.rows i) (station_admitted R.takes l)
 
 pub only_answer : {A : Type 0} {o : Option A} {a b : A} → o ≡ Some a → o ≡ Some b → a ≡ b
-only_answer {a = a} {b = b} e f = same (sym e ∙ f)
-  where
-    same : Some a ≡ Some b → a ≡ b
-    same g = cc
+only_answer e f = cc

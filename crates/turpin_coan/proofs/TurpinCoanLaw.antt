@@ -192,15 +192,14 @@ module _ {V : Type 0} (K : Kind V) (G : Protocol V (V × Bool)) (orderly : Order
         let p = and_parts _ _ f.2 in
         let x = answers orderly graded f.0 f.1 in
         (f.0, (f.1, p.0), x.0.0, with_grade_one x.0 x.1 p.1))
-        (λ f. absurd (never (only_answer e (b_law.validity n t switch Hold (λ k d. ap entry_for (zero f k d)) i c))))
+        (λ f.
+        let same = only_answer e (b_law.validity n t switch Hold (λ k d. ap entry_for (zero f k d)) i c) in
+        absurd (grind arith))
         (some_or_none (λ k. R.correct k && grade_of (answered graded k)) n)
       where
         zero : ((k : ℕ) → k < n → (R.correct k && grade_of (answered graded k)) ≡ false) → (k : ℕ) → Correct R k →
             grade_of (answered graded k) ≡ false
         zero f k d = sym (ap (λ b. b && grade_of (answered graded k)) d.1) ∙ f k d.0
-
-        never : Go ≡ Hold → ⊥
-        never z = grind arith
 
     -- all answer what one value and the decision make
     agree : (i j : ℕ) → Correct R i → Correct R j → (v : V) × ((answered R i ≡ Some v) × (answered R j ≡ Some v))
