@@ -54,8 +54,8 @@ made_of a s p e =
         let q : Point = record { pressure = a; speed = s; limits = (h refl, k refl) } in
         let u : q ≡ p = cc in
         (ap (λ (x : Point). x.pressure) u, ap (λ (x : Point). x.speed) u)
-    go true false h k t = let z : ◌≡◌ {A = ℕ} 0 1 = cc in absurd (omega arith)
-    go false y h k t = let z : ◌≡◌ {A = ℕ} 0 1 = cc in absurd (omega arith)
+    go true false h k t = absurd (grind arith)
+    go false y h k t = absurd (grind arith)
 
 word_high : (p : Point) → p.pressure ≡ point_word p / 65536
 word_high p = let h = p.limits.1 in omega (arith, ints)
