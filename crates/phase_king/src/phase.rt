@@ -1,7 +1,7 @@
 ghost use Rattle.std.specs.Prelude.{◌≡◌};
 ghost use Rattle.phase_king.specs.PhaseKing.{king_word, after_king, next_phase};
 
-use protocol::{SILENT, Setup, Value, heard_at};
+use protocol::{Heard, SILENT, Setup, Value};
 
 /// One phase at a station: the station with this number is king.
 #[derive(Clone, Copy)]
@@ -26,8 +26,9 @@ impl Phase {
     pub(crate) fn after_king<V: Value>(self, word: u64, grade: bool, row: &[u64]) -> V
         ensures { result ≡ after_king V.Value.kind self word grade row.now }
     {
-        let king = heard_at(self.setup.own, self.king_word(word), row, self.king);
-        let word = if grade { word } else { king };
+        let (setup, said) = (self.setup, self.king_word(word));
+        let heard = Heard { setup, said, row };
+        let word = if grade { word } else { heard.at(self.king) };
         V::read_or_rest(word)
     }
 
