@@ -4,6 +4,7 @@
 
 mod point;
 mod switch;
+mod text;
 
 pub use point::Point;
 pub use switch::Switch;
