@@ -8,11 +8,7 @@ use protocol::{FullVote, Machine, SILENT, Setup, Value, runs_exist};
 fn sent_in(forged: &[[u64; 3]], round: usize) -> [u64; 3]
     ensures { result ≡ sent_in forged.now round }
 {
-    if round < forged.len() {
-        forged[round]
-    } else {
-        [SILENT; 3]
-    }
+    forged.get(round).copied().unwrap_or([SILENT; 3])
 }
 
 /// Runs a whole vote of four stations of which station 0 is faulty: what stations 1, 2 and 3 answer that enter these
