@@ -25,9 +25,8 @@ pub fn vote<V: Value, M: FullVote + Machine<Value = V>>(
     runs_exist::<M>();
     M::full_law();
     let [x, y, z] = *entries;
-    let mut first = M::begin(Setup { n: 4, t: 1, own: 1 }, x);
-    let mut second = M::begin(Setup { n: 4, t: 1, own: 2 }, y);
-    let mut third = M::begin(Setup { n: 4, t: 1, own: 3 }, z);
+    let begin = |own, entry| M::begin(Setup { n: 4, t: 1, own }, entry);
+    let (mut first, mut second, mut third) = (begin(1, x), begin(2, y), begin(3, z));
     for k in 0..M::rounds(4, 1) {
         let [to_first, to_second, to_third] = sent_in(forged, k);
         let (a, b, c) = (first.say(), second.say(), third.say());
