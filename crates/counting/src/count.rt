@@ -5,7 +5,7 @@ use crate::tally::leader;
 use protocol::{Heard, Machine, SILENT, Setup, Value, WeakVote};
 use std::marker::PhantomData;
 
-/// Where a station stands in the counting vote; values are kept as words.
+/// Where a station stands in the counting vote. By the rules a machine keeps values as words, and no value as silence.
 #[derive(Clone, Copy)]
 pub enum CountState {
     Idle,

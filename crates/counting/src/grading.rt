@@ -6,7 +6,8 @@ ghost use Rattle.counting.specs.Grading.{grading, grading_state};
 use crate::tally::leader;
 use protocol::{GradedVote, Heard, MANY_ROUNDS, Machine, SILENT, Setup, Value, WeakVote};
 
-/// Graded consensus over a weak vote: its answers are told and counted in one round more.
+/// Graded consensus over a weak vote: its answers are told and counted in one round more. By the rules a machine keeps
+/// values as words, and no value as silence.
 #[derive(Clone, Copy)]
 pub enum Grading<W> {
     Idle,

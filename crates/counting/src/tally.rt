@@ -30,7 +30,8 @@ fn foremost<V: Value>(heard: Heard) -> (V, usize)
         .fold((V::rest(), 0), ahead)
 }
 
-// The first of two values with their counts, unless the second beats it: a larger count, or an equal one and less.
+// The first of two values with their counts, unless the second beats it: a larger count, or an equal one and less. As a
+// comparison of pairs, of the count and the value turned round, it would be no plainer.
 fn ahead<V: Value>(a: (V, usize), b: (V, usize)) -> (V, usize)
     ensures { result ≡ ahead V.Value.kind a b }
 {
@@ -61,6 +62,7 @@ fn candidate(heard: Heard) -> u64
 {
     let mut word = SILENT;
     let mut lead: usize = 0;
+    // over places and not over the row: the own place and those past the row's end are read otherwise
     for j in 0..heard.setup.n {
         let next = heard.at(j);
         if lead == 0 {
@@ -75,7 +77,7 @@ fn candidate(heard: Heard) -> u64
     word
 }
 
-// How many places read as the value `v`.
+// How many places read as the value `v`. By the rules of counting this is a loop over the words with their index.
 fn places_of<V: Value>(heard: Heard, v: V) -> usize
     ensures { result ≡ places (as_heard heard.entry) (V.Value.kind.word v) heard.entry.setup.n }
 {

@@ -12,6 +12,7 @@ pub use phase::Phase;
 use protocol::{FullVote, GradedVote, MANY_ROUNDS, Machine, SILENT, Setup, Value};
 
 /// Consensus over a graded vote: in each of t + 1 phases a graded vote, then a round in which the phase's king speaks.
+/// By the rules a machine keeps values as words.
 #[derive(Clone, Copy)]
 pub enum PhaseKing<G> {
     Idle,

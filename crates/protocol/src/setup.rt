@@ -3,7 +3,7 @@ ghost use Rattle.protocol.specs.Admission.{refusal};
 
 use crate::refusal::Refusal;
 
-/// Numbers of rounds are kept up to this one, which stands for more too; a vote that takes so many is refused.
+/// Numbers of rounds are kept up to this one, which by the rules stands for more too, and is refused.
 pub const MANY_ROUNDS: usize = 65536;
 
 /// What a station knows of a vote before it begins.

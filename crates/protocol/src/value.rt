@@ -6,6 +6,8 @@ ghost use Rattle.protocol.specs.Kind.{Kind, Lawful, value_of};
 pub trait Value: Copy + Ord {
     ghost kind: { Kind Self };
 
+    // `From` and `TryFrom` would be no plainer: the laws tie both ways to one kind, which is told once.
+
     /// The word that stands for this value.
     fn word(self) -> u64
         ensures { result ≡ kind.word self };

@@ -3,7 +3,7 @@ ghost use Rattle.protocol.specs.Heard.{as_heard};
 
 use crate::setup::Setup;
 
-/// The word that reads as no value of any kind.
+/// The word that reads as no value of any kind. On the wire it is what `None` is in the program.
 pub const SILENT: u64 = u64::MAX;
 
 /// A row as a station reads it that said `said` in this round.

@@ -8,7 +8,8 @@ ghost use Rattle.turpin_coan.specs.TurpinCoan.{decided, turpin_coan, tc_state};
 use protocol::{FullVote, GradedVote, MANY_ROUNDS, Machine, SILENT, Setup, Value};
 use values::Switch;
 
-/// Consensus on values of any kind: a graded vote on them, then a vote on the switch whether its value is taken.
+/// Consensus on values of any kind: a graded vote on them, then a vote on the switch whether its value is taken. By the
+/// rules a machine keeps values as words.
 #[derive(Clone, Copy)]
 pub enum TurpinCoan<G, B> {
     Idle,
