@@ -15,24 +15,31 @@ SEARCHES = [
     ("1 enums (of the shape of Option or Result?)", r"^\s*(pub )?enum "),
     ("1 flags", r"\bbool\)|\w+: bool\b"),
     ("1 numbers for kinds, to or from", r"^\s*\d+( \| \d+)* => |=> \d+,$"),
-    ("1 words and numbers that may stand for none or for more", r"^\s*(\w+ \{.*)?word: u64\b|const (SILENT|MANY_ROUNDS)\b"),
+    ("1 words and numbers that may stand for none or for more",
+     r"^\s*(\w+ \{.*)?word: u64\b|const (SILENT|MANY_ROUNDS)\b"),
     ("3 loops", r"^\s*(for .* in .*\{|while .*|loop \{)$"),
     ("3 elements by a hand-made index", r"\w\[[a-z_]\w*(\.\w+)?\](?!\))|\[0\.\."),
-    ("4 impls of std's traits", r"impl.* (PartialEq|Eq|PartialOrd|Ord|Clone|Copy|Hash|Default|From<.*>|TryFrom<.*>|\w*:*Display) for"),
-    ("4 conversions, orders and texts as functions", r"fn \w+(<.*>)?\(.*\) -> (u8|u64|bool|Switch|&'static str|Result<String, .*>)( \{)?$"),
+    ("4 impls of std's traits",
+     r"impl.* (PartialEq|Eq|PartialOrd|Ord|Clone|Copy|Hash|Default|From<.*>|TryFrom<.*>|\w*:*Display) for"),
+    ("4 conversions, orders and texts as functions",
+     r"fn \w+(<.*>)?\(.*\) -> (u8|u64|bool|Switch|&'static str|Result<String, .*>)( \{)?$"),
     ("6 arrays by size", r"\[[^\[\];]+; [^\[\];]+\]"),
     ("6 Vec, String, maps", r"\b(Vec|String|BTreeMap|HashMap)\b"),
     ("7 closures, dyn, function pointers", r"\bdyn\b|\bFn(Mut|Once)?\(|\bfn\(|[(=] ?\|[^|]*\| "),
 ]
 
 
+def git(*args):
+    return subprocess.run(["git", *args], capture_output=True, text=True, check=True).stdout
+
+
 def sources(commit):
     if commit is None:
-        names = subprocess.run(["git", "ls-files", "-co", "--exclude-standard", "crates"], capture_output=True, text=True, check=True).stdout.split()
+        names = git("ls-files", "-co", "--exclude-standard", "crates").split()
         read = lambda name: open(name, encoding="utf-8").read()
     else:
-        names = subprocess.run(["git", "ls-tree", "-r", "--name-only", commit, "crates"], capture_output=True, text=True, check=True).stdout.split()
-        read = lambda name: subprocess.run(["git", "show", f"{commit}:{name}"], capture_output=True, text=True, check=True).stdout
+        names = git("ls-tree", "-r", "--name-only", commit, "crates").split()
+        read = lambda name: git("show", f"{commit}:{name}")
     return {name: read(name) for name in sorted(names) if re.fullmatch(r"crates/\w+/src/.*\.rt", name)}
 
 
@@ -112,7 +119,8 @@ def main():
     files = sources(args[0] if args else None)
     show = lambda lines: [print(f"    {line}") for line in lines] if verbose else None
     for label, pattern in SEARCHES:
-        found = [f"{name}:{i}: {line.strip()}" for name, text in files.items() for i, line in enumerate(text.split("\n"), 1)
+        found = [f"{name}:{i}: {line.strip()}"
+                 for name, text in files.items() for i, line in enumerate(text.split("\n"), 1)
                  if re.search(pattern, line) and not line.lstrip().startswith(("//", "ghost", "use ", "#["))]
         print(f"{len(found):4} {label}")
         show(found)

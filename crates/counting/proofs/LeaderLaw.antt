@@ -43,7 +43,8 @@ module _ {V : Type 0} (K : Kind V) (row : ℕ → ℕ) (n : ℕ) where
   taken js = map (λ v. (v, places row (K.word v) n)) (filter_map (λ j. K.reads (row j)) js)
 
   -- what place j adds
-  place_taken : (j : ℕ) (best : V × ℕ) → fold (ahead K) best (taken (j ∷ [])) ≡ considered K row n best (K.reads (row j))
+  place_taken : (j : ℕ) (best : V × ℕ) →
+      fold (ahead K) best (taken (j ∷ [])) ≡ considered K row n best (K.reads (row j))
   place_taken j best = go (K.reads (row j)) refl
     where
       go : (o : Option V) → K.reads (row j) ≡ o → fold (ahead K) best (taken (j ∷ [])) ≡ considered K row n best o

@@ -9,8 +9,9 @@ returns-in-Some g c =
     let k = g.V.Value.kind in
     let row = as_heard c.args.heard in
     let n = c.args.heard.setup.n in
+    let best = c.in-Some.best in
     let h = c.in-Some.ensures in
-    leader_is k g.met.V.Value.lawful row n c.in-Some.best (majority_is_leader k g.met.V.Value.lawful row n c.in-Some.best h.0 h.1)
+    leader_is k g.met.V.Value.lawful row n best (majority_is_leader k g.met.V.Value.lawful row n best h.0 h.1)
 
 pub returns : goal.returns
 returns g c =
