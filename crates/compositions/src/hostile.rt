@@ -2,11 +2,12 @@
 
 #[cfg(test)]
 mod tests {
-    use crate::adversary::tests::{CASES, Case};
+    use crate::adversary::tests::{Case, Round};
     use crate::{King, Multivalued};
     use counting::{Count, Grading};
     use phase_king::PhaseKing;
-    use protocol::{FullVote, GradedVote, Machine, SILENT, Setup, Value};
+    use protocol::{Machine, Setup, Value};
+    use std::alloc::{AllocError, Global};
     use std::test::Fail;
     use step_down::{AsGraded, AsWeak};
     use values::{Point, Switch};
@@ -14,8 +15,6 @@ mod tests {
     type Deep = PhaseKing<Grading<AsWeak<King<Switch>>>>;
 
     const SIZES: [usize; 4] = [4, 7, 10, 64];
-
-    const FOUR: Setup = Setup { n: 4, t: 1, own: 0 };
 
     // The two values that are entered. From a round on the words in play are those of the switch.
     #[derive(Clone, Copy)]
@@ -31,142 +30,133 @@ mod tests {
         until: 0,
     };
 
-    fn words_said<M: Machine>(machines: &[M]) -> [u64; 64] {
-        let mut said = [SILENT; 64];
-        for (j, machine) in machines.iter().enumerate() {
-            if j < 64 {
-                said[j] = machine.say();
-            }
-        }
-        said
-    }
-
-    // All rounds of a case, which the machines begin anew.
-    fn run<V: Value, M: Machine<Value = V>>(machines: &mut [M], case: Case, sides: Sides<V>) {
-        let (n, t, first, second) = (case.n, case.t, sides.first, sides.second);
-        for own in 0..machines.len() {
-            let value = if own < case.many { second } else { first };
-            machines[own] = M::begin(Setup { n, t, own }, value);
-        }
-        for k in 0..M::rounds(n, t) {
-            let said = words_said(machines);
-            let (a, b) = if k < sides.until {
-                (first.word(), second.word())
+    impl<V: Value> Sides<V> {
+        fn round(self, number: usize) -> Round {
+            let words = if number < self.until {
+                [self.first.word(), self.second.word()]
             } else {
-                (0, 1)
+                [Switch::Hold.word(), Switch::Go.word()]
             };
-            for i in 0..machines.len() {
-                machines[i].hear(&case.row(a, b, &said, k, i));
-            }
+            Round { number, words }
+        }
+
+        // The word that all correct stations enter.
+        fn entered(self, case: Case) -> Option<u64> {
+            let second = case.unanimous()?;
+            let value = if second { self.second } else { self.first };
+            Some(value.word())
         }
     }
 
-    // The word that all correct stations enter.
-    fn entered<V: Value>(case: Case, sides: Sides<V>) -> Option<u64> {
-        match case.unanimous() {
-            Some(true) => Some(sides.second.word()),
-            Some(false) => Some(sides.first.word()),
-            None => None,
+    // The machines of all stations, before the first round.
+    fn begun<M: Machine>(
+        alloc: Global,
+        case: Case,
+        sides: Sides<M::Value>,
+    ) -> Result<Vec<M>, AllocError> {
+        let Case { n, t, many, .. } = case;
+        let machines = (0..n).map(|own| {
+            let value = if own < many {
+                sides.second
+            } else {
+                sides.first
+            };
+            M::begin(Setup { n, t, own }, value)
+        });
+        machines.collect(alloc)
+    }
+
+    // What the correct stations of a case answer after all rounds.
+    fn answers<M: Machine>(
+        alloc: Global,
+        case: Case,
+        sides: Sides<M::Value>,
+    ) -> Result<Vec<Option<M::Answer>>, AllocError> {
+        let mut machines = begun::<M>(alloc, case, sides)?;
+        for k in 0..M::rounds(case.n, case.t) {
+            let said: Vec<u64> = machines.iter().map(|machine| machine.say()).collect(alloc)?;
+            for (listener, machine) in machines.iter_mut().enumerate() {
+                machine.hear(&case.row(alloc, sides.round(k), &said, listener)?);
+            }
         }
+        let correct = machines
+            .iter()
+            .enumerate()
+            .filter(|(j, _)| !case.is_faulty(*j));
+        correct.map(|(_, machine)| machine.answer()).collect(alloc)
     }
 
     // All correct stations answer one value, and that which all of them entered.
-    fn keeps_full_law<V: Value, M: FullVote + Machine<Value = V>>(
-        machines: &mut [M],
-        case: Case,
-        sides: Sides<V>,
-    ) -> bool {
-        run::<V, M>(machines, case, sides);
-        let mut common = entered(case, sides);
-        for (j, machine) in machines.iter().enumerate() {
-            if j < case.n && !case.is_faulty(j) {
-                let Some(answer) = machine.answer() else {
-                    return false;
-                };
-                if common.unwrap_or(answer.word()) != answer.word() {
-                    return false;
-                }
-                common = Some(answer.word());
-            }
-        }
-        true
+    fn keeps_full_law<V: Value>(entered: Option<u64>, answers: &[Option<V>]) -> bool {
+        let mut words = answers
+            .iter()
+            .map(|answer| answer.map(|value| value.word()));
+        let Some(first) = words.next() else {
+            return true
+        };
+        let common = entered.or(first);
+        first == common && common.is_some() && words.all(|word| word == common)
     }
 
     // What a correct station answers with grade 1 all correct ones answer, and with grade 1 if all of them entered it.
-    fn keeps_graded_law<V: Value, M: GradedVote + Machine<Value = V>>(
-        machines: &mut [M],
-        case: Case,
-        sides: Sides<V>,
-    ) -> bool {
-        run::<V, M>(machines, case, sides);
-        let unanimous = entered(case, sides);
-        let mut sure = unanimous;
-        for (j, machine) in machines.iter().enumerate() {
-            if let Some((value, grade)) = machine.answer() {
-                if grade && j < case.n && !case.is_faulty(j) {
-                    sure = sure.or(Some(value.word()));
-                }
-            }
-        }
-        for (j, machine) in machines.iter().enumerate() {
-            if j < case.n && !case.is_faulty(j) {
-                let Some((value, grade)) = machine.answer() else {
-                    return false;
-                };
-                if sure.unwrap_or(value.word()) != value.word() || (unanimous.is_some() && !grade) {
-                    return false;
-                }
-            }
-        }
-        true
+    fn keeps_graded_law<V: Value>(entered: Option<u64>, answers: &[Option<(V, bool)>]) -> bool {
+        let graded_one = answers.iter().flatten().find(|(_, grade)| *grade);
+        let sure = entered.or(graded_one.map(|(value, _)| value.word()));
+        answers.iter().all(|answer| {
+            answer.is_some_and(|(value, grade)| {
+                sure.is_none_or(|word| word == value.word()) && (grade || entered.is_none())
+            })
+        })
     }
 
-    // All cases of 4, 7, 10 and 64 stations, up to a largest number, with some faulty stations too many.
-    fn all_full<V: Value, M: FullVote + Machine<Value = V>>(
-        machines: &mut [M],
-        largest: usize,
+    // Whether all cases of so many stations, with some faulty ones too many, keep a law, which is given the word that
+    // all correct stations entered and what each of them answered.
+    fn all_keep<M: Machine, F: Fn(Option<u64>, &[Option<M::Answer>]) -> bool>(
+        alloc: Global,
+        sizes: &[usize],
         extra: usize,
-        sides: Sides<V>,
-    ) -> bool {
-        for number in 0..4 * CASES {
-            let case = Case::numbered(SIZES[number % 4], extra, number / 4);
-            if case.n <= largest && !keeps_full_law::<V, M>(machines, case, sides) {
-                return false;
+        sides: Sides<M::Value>,
+        law: F,
+    ) -> Result<bool, AllocError>
+        requires { F.IsAlwaysCallable law }
+    {
+        for n in sizes {
+            for case in Case::all(alloc, *n, extra)? {
+                let answers = answers::<M>(alloc, case, sides)?;
+                if !law(sides.entered(case), &answers) {
+                    return Ok(false);
+                }
             }
         }
-        true
-    }
-
-    fn all_graded<V: Value, M: GradedVote + Machine<Value = V>>(
-        machines: &mut [M],
-        sides: Sides<V>,
-    ) -> bool {
-        for number in 0..4 * CASES {
-            let case = Case::numbered(SIZES[number % 4], 0, number / 4);
-            if !keeps_graded_law::<V, M>(machines, case, sides) {
-                return false;
-            }
-        }
-        true
+        Ok(true)
     }
 
     #[test]
-    fn grading_keeps_its_law(rt: HostRuntime) {
-        let mut machines = [Grading::<Count<Switch>>::begin(FOUR, Switch::Hold); 64];
-        assert!(rt; all_graded::<Switch, Grading<Count<Switch>>>(&mut machines, SWITCHES));
+    fn grading_keeps_its_law(rt: HostRuntime) -> Result<(), AllocError> {
+        let keep = all_keep::<Grading<Count<Switch>>, _>(
+            rt.alloc(),
+            &SIZES,
+            0,
+            SWITCHES,
+            keeps_graded_law,
+        )?;
+        assert!(rt; keep);
+        Ok(())
     }
 
     #[test]
-    fn phase_king_keeps_its_law(rt: HostRuntime) {
-        let mut machines = [King::<Switch>::begin(FOUR, Switch::Hold); 64];
-        assert!(rt; all_full::<Switch, King<Switch>>(&mut machines, 64, 0, SWITCHES));
+    fn phase_king_keeps_its_law(rt: HostRuntime) -> Result<(), AllocError> {
+        let keep = all_keep::<King<Switch>, _>(rt.alloc(), &SIZES, 0, SWITCHES, keeps_full_law)?;
+        assert!(rt; keep);
+        Ok(())
     }
 
     // What the other tests look for can be seen: one faulty station more, and some run breaks the law.
     #[test]
-    fn one_faulty_station_too_many_breaks_the_law(rt: HostRuntime) {
-        let mut machines = [King::<Switch>::begin(FOUR, Switch::Hold); 64];
-        assert!(rt; !all_full::<Switch, King<Switch>>(&mut machines, 4, 1, SWITCHES));
+    fn one_faulty_station_too_many_breaks_the_law(rt: HostRuntime) -> Result<(), AllocError> {
+        let keep = all_keep::<King<Switch>, _>(rt.alloc(), &[4], 1, SWITCHES, keeps_full_law)?;
+        assert!(rt; !keep);
+        Ok(())
     }
 
     #[test]
@@ -176,21 +166,29 @@ mod tests {
             second: Point::new(2500, 1500)?,
             until: 2,
         };
-        let mut machines = [Multivalued::<Point>::begin(FOUR, Point::rest()); 64];
-        assert!(rt; all_full::<Point, Multivalued<Point>>(&mut machines, 64, 0, sides));
+        let keep = all_keep::<Multivalued<Point>, _>(rt.alloc(), &SIZES, 0, sides, keeps_full_law)?;
+        assert!(rt; keep);
         Ok(())
     }
 
     #[test]
-    fn stepping_down_keeps_its_law(rt: HostRuntime) {
-        let mut machines = [AsGraded::<King<Switch>>::begin(FOUR, Switch::Hold); 64];
-        assert!(rt; all_graded::<Switch, AsGraded<King<Switch>>>(&mut machines, SWITCHES));
+    fn stepping_down_keeps_its_law(rt: HostRuntime) -> Result<(), AllocError> {
+        let keep = all_keep::<AsGraded<King<Switch>>, _>(
+            rt.alloc(),
+            &SIZES,
+            0,
+            SWITCHES,
+            keeps_graded_law,
+        )?;
+        assert!(rt; keep);
+        Ok(())
     }
 
     // Grading of a vote that steps down to a weak one, under a phase king.
     #[test]
-    fn layers_on_layers_keep_their_law(rt: HostRuntime) {
-        let mut machines = [Deep::begin(FOUR, Switch::Hold); 64];
-        assert!(rt; all_full::<Switch, Deep>(&mut machines, 64, 0, SWITCHES));
+    fn layers_on_layers_keep_their_law(rt: HostRuntime) -> Result<(), AllocError> {
+        let keep = all_keep::<Deep, _>(rt.alloc(), &SIZES, 0, SWITCHES, keeps_full_law)?;
+        assert!(rt; keep);
+        Ok(())
     }
 }

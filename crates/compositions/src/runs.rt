@@ -7,68 +7,59 @@ mod tests {
     use std::test::Fail;
     use values::{Point, Switch};
 
+    const SWITCHES: [Switch; 2] = [Switch::Hold, Switch::Go];
+
+    // What a station may be told that hears switches.
+    const WORDS: [u64; 4] = [0, 1, 2, SILENT];
+
     fn begun(own: usize, entry: Switch) -> Count<Switch> {
-        Count::<Switch>::begin(Setup { n: 4, t: 1, own }, entry)
+        Count::begin(Setup { n: 4, t: 1, own }, entry)
     }
 
     // What the three correct stations of four answer where the faulty one, station 3, tells each of them another word.
-    fn answers(entries: [Switch; 3], forged: [u64; 3]) -> [Option<Option<Switch>>; 3] {
-        let [x, y, z] = entries;
+    fn answers([x, y, z]: [Switch; 3], forged: [u64; 3]) -> [Option<Option<Switch>>; 3] {
         let mut stations = [begun(0, x), begun(1, y), begun(2, z)];
-        let [a, b, c] = [stations[0].say(), stations[1].say(), stations[2].say()];
-        stations[0].hear(&[a, b, c, forged[0]]);
-        stations[1].hear(&[a, b, c, forged[1]]);
-        stations[2].hear(&[a, b, c, forged[2]]);
-        [
-            stations[0].answer(),
-            stations[1].answer(),
-            stations[2].answer(),
-        ]
-    }
-
-    // Either may be none, and two values are the same.
-    fn consistent(a: Option<Option<Switch>>, b: Option<Option<Switch>>) -> bool {
-        match (a, b) {
-            (Some(Some(a)), Some(Some(b))) => a == b,
-            (Some(_), Some(_)) => true,
-            _ => false,
+        let [a, b, c] = stations.map(|station| station.say());
+        for (station, word) in stations.iter_mut().zip(forged) {
+            station.hear(&[a, b, c, word]);
         }
+        stations.map(|station| station.answer())
     }
 
-    fn switch_of(bit: usize) -> Switch {
-        if bit == 0 { Switch::Hold } else { Switch::Go }
+    // Each has answered a value or none, and two values are the same.
+    fn consistent(answers: &[Option<Option<Switch>>]) -> bool {
+        let both = SWITCHES
+            .iter()
+            .all(|value| answers.contains(&Some(Some(*value))));
+        !both && !answers.contains(&None)
+    }
+
+    // Every word that may matter to each of the three.
+    fn keep_weak_law(entries: [Switch; 3]) -> bool {
+        let [first, ..] = entries;
+        let unanimous = entries == [first; 3];
+        for a in WORDS {
+            for b in WORDS {
+                for c in WORDS {
+                    let answers = answers(entries, [a, b, c]);
+                    if !consistent(&answers) || (unanimous && answers != [Some(Some(first)); 3]) {
+                        return false;
+                    }
+                }
+            }
+        }
+        true
     }
 
     // Every entry of the three correct stations against every word that may matter to each of them.
     #[test]
     fn every_adversary_of_four(rt: HostRuntime) {
-        let words = [0, 1, 2, SILENT];
-        for entries in 0..8usize {
-            let entries = [
-                switch_of(entries & 1),
-                switch_of(entries & 2),
-                switch_of(entries & 4),
-            ];
-            let unanimous = entries[0] == entries[1] && entries[1] == entries[2];
-            for a in words {
-                for b in words {
-                    for c in words {
-                        let [x, y, z] = answers(entries, [a, b, c]);
-                        assert!(rt; consistent(x, y));
-                        assert!(rt; consistent(y, z));
-                        assert!(rt; consistent(x, z));
-                        if unanimous {
-                            assert_eq!(rt; [x, y, z], [Some(Some(entries[0])); 3]);
-                        }
-                    }
+        for x in SWITCHES {
+            for y in SWITCHES {
+                for z in SWITCHES {
+                    assert!(rt; keep_weak_law([x, y, z]), "{x:?} {y:?} {z:?}");
                 }
             }
-        }
-    }
-
-    fn fill(row: &mut [u64], many: usize, word: u64) {
-        for j in 0..many.min(row.len()) {
-            row[j] = word;
         }
     }
 
@@ -76,15 +67,13 @@ mod tests {
     // the word `other`.
     fn of_64(mine: Point, other: u64, many: usize) -> Option<Option<Point>> {
         let mut row = [other; 64];
-        fill(&mut row, many, mine.word());
-        let mut machine = Count::<Point>::begin(
-            Setup {
-                n: 64,
-                t: 21,
-                own: 0,
-            },
-            mine,
-        );
+        row[..many.min(64)].fill(mine.word());
+        let setup = Setup {
+            n: 64,
+            t: 21,
+            own: 0,
+        };
+        let mut machine = Count::begin(setup, mine);
         machine.hear(&row);
         machine.answer()
     }
