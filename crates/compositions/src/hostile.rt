@@ -88,14 +88,9 @@ mod tests {
 
     // All correct stations answer one value, and that which all of them entered.
     fn keeps_full_law<V: Value>(entered: Option<u64>, answers: &[Option<V>]) -> bool {
-        let mut words = answers
-            .iter()
-            .map(|answer| answer.map(|value| value.word()));
-        let Some(first) = words.next() else {
-            return true
-        };
-        let common = entered.or(first);
-        first == common && common.is_some() && words.all(|word| word == common)
+        let answered = answers.iter().flatten().next();
+        let common = entered.or(answered.map(|value| value.word()));
+        answers.iter().all(|answer| answer.is_some_and(|value| common == Some(value.word())))
     }
 
     // What a correct station answers with grade 1 all correct ones answer, and with grade 1 if all of them entered it.
@@ -104,7 +99,8 @@ mod tests {
         let sure = entered.or(graded_one.map(|(value, _)| value.word()));
         answers.iter().all(|answer| {
             answer.is_some_and(|(value, grade)| {
-                sure.is_none_or(|word| word == value.word()) && (grade || entered.is_none())
+                let word = value.word();
+                sure.unwrap_or(word) == word && (grade || entered.is_none())
             })
         })
     }

@@ -31,8 +31,7 @@ mod tests {
         true
     }
 
-    fn is_idle(n: usize, t: usize, own: usize) -> bool {
-        let setup = Setup { n, t, own };
+    fn is_idle(setup: Setup) -> bool {
         idle::<Count<Switch>>(setup)
             && idle::<Grading<Count<Switch>>>(setup)
             && idle::<King<Switch>>(setup)
@@ -40,8 +39,8 @@ mod tests {
     }
 
     // One that votes says its entry's word, and answers once it has heard a row.
-    fn votes(n: usize, t: usize, own: usize) -> bool {
-        let mut machine = Count::<Switch>::begin(Setup { n, t, own }, Switch::Go);
+    fn votes(setup: Setup) -> bool {
+        let mut machine = Count::begin(setup, Switch::Go);
         let said = machine.say();
         let early = machine.answer().is_none();
         machine.hear(&[1; 64]);
@@ -50,19 +49,27 @@ mod tests {
 
     #[test]
     fn setups_at_the_limits(rt: HostRuntime) {
-        assert!(rt; is_idle(3, 1, 0), "a third of three may not be faulty");
-        assert!(rt; votes(4, 1, 0), "one of four may");
-        assert!(rt; is_idle(1, 0, 0), "one station does not vote");
-        assert!(rt; votes(2, 0, 1), "two do");
-        assert!(rt; is_idle(65, 21, 0), "65 stations are too many");
-        assert!(rt; votes(64, 21, 63), "64 with 21 faulty ones are not");
-        assert!(rt; is_idle(64, 22, 0), "22 faulty ones are too many");
-        assert!(rt; is_idle(4, 1, 4), "the own number is below n");
-        assert!(rt; is_idle(0, 0, 0), "no station at all");
-        assert!(rt;
-            is_idle(usize::MAX, usize::MAX, usize::MAX),
-            "the largest numbers"
-        );
+        const MAX: usize = usize::MAX;
+        let refused = [
+            (3, 1, 0, "a third of three may not be faulty"),
+            (1, 0, 0, "one station does not vote"),
+            (65, 21, 0, "65 stations are too many"),
+            (64, 22, 0, "22 faulty ones are too many"),
+            (4, 1, 4, "the own number is below n"),
+            (0, 0, 0, "no station at all"),
+            (MAX, MAX, MAX, "the largest numbers"),
+        ];
+        for (n, t, own, why) in refused {
+            assert!(rt; is_idle(Setup { n, t, own }), "{why}");
+        }
+        let taken = [
+            (4, 1, 0, "one of four may"),
+            (2, 0, 1, "two do"),
+            (64, 21, 63, "64 with 21 faulty ones are not"),
+        ];
+        for (n, t, own, why) in taken {
+            assert!(rt; votes(Setup { n, t, own }), "{why}");
+        }
     }
 
     // A machine has its answer after as many rounds and no sooner, and then is silent, whatever it hears.

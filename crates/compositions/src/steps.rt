@@ -10,46 +10,30 @@ mod tests {
 
     const MUTE: u64 = SILENT;
 
-    fn of_four(own: usize) -> Setup {
-        Setup { n: 4, t: 1, own }
-    }
-
-    // A station that has entered a value and heard some rows.
-    fn after<V: Value, M: Machine<Value = V>>(own: usize, entry: V, rows: &[[u64; 4]]) -> M {
-        let mut machine = M::begin(of_four(own), entry);
-        for row in rows.iter() {
+    // A station of four that has entered a value and heard some rows.
+    fn after<M: Machine>(own: usize, entry: M::Value, rows: &[[u64; 4]]) -> M {
+        let mut machine = M::begin(Setup { n: 4, t: 1, own }, entry);
+        for row in rows {
             machine.hear(row);
         }
         machine
     }
 
-    fn said<V: Value, M: Machine<Value = V>>(own: usize, entry: V, rows: &[[u64; 4]]) -> u64 {
-        after::<V, M>(own, entry, rows).say()
-    }
-
-    fn answered<V: Value, M: Machine<Value = V>>(
-        own: usize,
-        entry: V,
-        rows: &[[u64; 4]],
-    ) -> Option<M::Answer> {
-        after::<V, M>(own, entry, rows).answer()
-    }
-
     // What station `own` answers that grades a counting vote.
     fn graded(own: usize, entry: Switch, rows: &[[u64; 4]]) -> Option<(Switch, bool)> {
-        answered::<Switch, Grading<Count<Switch>>>(own, entry, rows)
+        after::<Grading<Count<Switch>>>(own, entry, rows).answer()
     }
 
     // What station `own` says after some rounds of a phase king.
     fn king_says(own: usize, entry: Switch, rows: &[[u64; 4]]) -> u64 {
-        said::<Switch, King<Switch>>(own, entry, rows)
+        after::<King<Switch>>(own, entry, rows).say()
     }
 
     // What station 2 answers that entered a point, after two rounds on points and six equal rows on the switch.
     fn decided(point: Point, points: [[u64; 4]; 2], switch: [u64; 4]) -> Option<Point> {
         let [a, b] = points;
         let s = switch;
-        answered::<Point, Multivalued<Point>>(2, point, &[a, b, s, s, s, s, s, s])
+        after::<Multivalued<Point>>(2, point, &[a, b, s, s, s, s, s, s]).answer()
     }
 
     #[test]
