@@ -5,13 +5,11 @@ mod tests {
     use crate::{King, Multivalued, ThreeKings};
     use counting::{Count, Grading};
     use phase_king::PhaseKing;
-    use protocol::{Machine, Refusal, SILENT, Setup, Value};
+    use protocol::{FullVote, Machine, Refusal, SILENT, Setup, Value};
     use std::mem::size_of;
     use std::test::Fail;
     use step_down::AsGraded;
     use values::{Point, Switch};
-
-    type FourKings<V> = PhaseKing<AsGraded<ThreeKings<V>>>;
 
     const LARGEST: Setup = Setup {
         n: 64,
@@ -118,11 +116,16 @@ mod tests {
         (M::rounds(64, 21), M::refusal(LARGEST))
     }
 
+    // The same with one more phase king above.
+    fn of_64_below_a_king<M: FullVote>() -> (usize, Option<Refusal>) {
+        of_64::<PhaseKing<AsGraded<M>>>()
+    }
+
     #[test]
     fn kings_above_kings(rt: HostRuntime) {
         assert_eq!(rt; of_64::<ThreeKings<Switch>>(), (32450, None));
         assert_eq!(rt;
-            of_64::<FourKings<Switch>>(),
+            of_64_below_a_king::<ThreeKings<Switch>>(),
             (65536, Some(Refusal::Rounds)),
             "it would take 713,922"
         );
