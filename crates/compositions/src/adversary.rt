@@ -133,11 +133,12 @@ pub mod tests {
 
     // One of the words, by a mixture of the numbers.
     fn garbled(words: [u64; 4], seed: u64, numbers: [usize; 3]) -> u64 {
-        let mixed = numbers.iter().fold(seed, |mixed, x| {
-            (mixed ^ (*x as u64))
+        let mut mixed = seed;
+        for x in numbers {
+            mixed = (mixed ^ (x as u64))
                 .wrapping_mul(6364136223846793005)
-                .rotate_left(23)
-        });
+                .rotate_left(23);
+        }
         words[(mixed % 4) as usize]
     }
 }

@@ -31,6 +31,10 @@ mod tests {
     };
 
     impl<V: Value> Sides<V> {
+        fn value(self, second: bool) -> V {
+            if second { self.second } else { self.first }
+        }
+
         fn round(self, number: usize) -> Round {
             let words = if number < self.until {
                 [self.first.word(), self.second.word()]
@@ -42,48 +46,53 @@ mod tests {
 
         // The word that all correct stations enter.
         fn entered(self, case: Case) -> Option<u64> {
-            let second = case.unanimous()?;
-            let value = if second { self.second } else { self.first };
-            Some(value.word())
+            Some(self.value(case.unanimous()?).word())
         }
-    }
 
-    // The machines of all stations, before the first round.
-    fn begun<M: Machine>(
-        alloc: Global,
-        case: Case,
-        sides: Sides<M::Value>,
-    ) -> Result<Vec<M>, AllocError> {
-        let Case { n, t, many, .. } = case;
-        let machines = (0..n).map(|own| {
-            let value = if own < many {
-                sides.second
-            } else {
-                sides.first
-            };
-            M::begin(Setup { n, t, own }, value)
-        });
-        machines.collect(alloc)
-    }
+        // The machines of all stations, before the first round.
+        fn begun<M: Machine<Value = V>>(
+            self,
+            alloc: Global,
+            case: Case,
+        ) -> Result<Vec<M>, AllocError> {
+            let Case { n, t, many, .. } = case;
+            let machines = (0..n).map(|own| {
+                let value = self.value(own < many);
+                M::begin(Setup { n, t, own }, value)
+            });
+            machines.collect(alloc)
+        }
 
-    // What the correct stations of a case answer after all rounds.
-    fn answers<M: Machine>(
-        alloc: Global,
-        case: Case,
-        sides: Sides<M::Value>,
-    ) -> Result<Vec<Option<M::Answer>>, AllocError> {
-        let mut machines = begun::<M>(alloc, case, sides)?;
-        for k in 0..M::rounds(case.n, case.t) {
-            let said: Vec<u64> = machines.iter().map(|machine| machine.say()).collect(alloc)?;
-            for (listener, machine) in machines.iter_mut().enumerate() {
-                machine.hear(&case.row(alloc, sides.round(k), &said, listener)?);
+        // What the correct stations answer after all rounds.
+        fn answers<M: Machine<Value = V>>(
+            self,
+            alloc: Global,
+            case: Case,
+        ) -> Result<Vec<Option<M::Answer>>, AllocError> {
+            let mut machines = self.begun::<M>(alloc, case)?;
+            for number in 0..M::rounds(case.n, case.t) {
+                run_round(alloc, &mut machines, case, self.round(number))?;
             }
+            let stations = machines.iter().enumerate();
+            stations
+                .filter(|(j, _)| !case.is_faulty(*j))
+                .map(|(_, machine)| machine.answer())
+                .collect(alloc)
         }
-        let correct = machines
-            .iter()
-            .enumerate()
-            .filter(|(j, _)| !case.is_faulty(*j));
-        correct.map(|(_, machine)| machine.answer()).collect(alloc)
+    }
+
+    // Each station says its word and hears its row.
+    fn run_round<M: Machine>(
+        alloc: Global,
+        machines: &mut [M],
+        case: Case,
+        round: Round,
+    ) -> Result<(), AllocError> {
+        let said: Vec<u64> = machines.iter().map(|machine| machine.say()).collect(alloc)?;
+        for (listener, machine) in machines.iter_mut().enumerate() {
+            machine.hear(&case.row(alloc, round, &said, listener)?);
+        }
+        Ok(())
     }
 
     // All correct stations answer one value, and that which all of them entered.
@@ -118,7 +127,7 @@ mod tests {
     {
         for n in sizes {
             for case in Case::all(alloc, *n, extra)? {
-                let answers = answers::<M>(alloc, case, sides)?;
+                let answers = sides.answers::<M>(alloc, case)?;
                 if !law(sides.entered(case), &answers) {
                     return Ok(false);
                 }
