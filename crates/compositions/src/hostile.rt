@@ -6,13 +6,11 @@ mod tests {
     use crate::{King, Multivalued};
     use counting::{Count, Grading};
     use phase_king::PhaseKing;
-    use protocol::{Machine, Setup, Value};
+    use protocol::{FullVote, Machine, Setup, Value};
     use std::alloc::{AllocError, Global};
     use std::test::Fail;
     use step_down::{AsGraded, AsWeak};
     use values::{Point, Switch};
-
-    type Deep = PhaseKing<Grading<AsWeak<King<Switch>>>>;
 
     const SIZES: [usize; 4] = [4, 7, 10, 64];
 
@@ -190,10 +188,16 @@ mod tests {
     }
 
     // Grading of a vote that steps down to a weak one, under a phase king.
+    fn layered_keep<M: FullVote>(
+        alloc: Global,
+        sides: Sides<M::Value>,
+    ) -> Result<bool, AllocError> {
+        all_keep::<PhaseKing<Grading<AsWeak<M>>>, _>(alloc, &SIZES, 0, sides, keeps_full_law)
+    }
+
     #[test]
     fn layers_on_layers_keep_their_law(rt: HostRuntime) -> Result<(), AllocError> {
-        let keep = all_keep::<Deep, _>(rt.alloc(), &SIZES, 0, SWITCHES, keeps_full_law)?;
-        assert!(rt; keep);
+        assert!(rt; layered_keep::<King<Switch>>(rt.alloc(), SWITCHES)?);
         Ok(())
     }
 }
