@@ -116,16 +116,17 @@ mod tests {
         (M::rounds(64, 21), M::refusal(LARGEST))
     }
 
-    // The same with one more phase king above.
-    fn of_64_below_a_king<M: FullVote>() -> (usize, Option<Refusal>) {
-        of_64::<PhaseKing<AsGraded<M>>>()
+    // The same of a vote, and of the vote with one more phase king above.
+    fn with_a_king_above<M: FullVote>() -> [(usize, Option<Refusal>); 2] {
+        [of_64::<M>(), of_64::<PhaseKing<AsGraded<M>>>()]
     }
 
     #[test]
     fn kings_above_kings(rt: HostRuntime) {
-        assert_eq!(rt; of_64::<ThreeKings<Switch>>(), (32450, None));
+        let [three, four] = with_a_king_above::<ThreeKings<Switch>>();
+        assert_eq!(rt; three, (32450, None));
         assert_eq!(rt;
-            of_64_below_a_king::<ThreeKings<Switch>>(),
+            four,
             (65536, Some(Refusal::Rounds)),
             "it would take 713,922"
         );
