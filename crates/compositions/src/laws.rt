@@ -1,5 +1,5 @@
 ghost use Rattle.protocol.specs.Laws.{FullLaw};
-ghost use Rattle.compositions.specs.Composition.{Given, protocol, Compositions};
+ghost use Rattle.compositions.specs.Composition.{Composition, Given, Full, protocol, Compositions};
 ghost use Rattle.compositions.specs.Named.{king, kings, multivalued};
 
 use counting::{Count, Grading};
@@ -26,23 +26,35 @@ pub fn compositions_keep_their_laws<V: Value>()
     lawful_kind::<Switch>();
 }
 
-/// The type is the composition of its name: its law is that one's.
-pub fn king_law<V: Value>()
-    ensures { FullLaw (protocol V.Value.kind (king Given)) }
-{
-    King::<V>::full_law();
+/// A full vote on values of a kind that is a composition, which has a name.
+pub trait Named: FullVote {
+    ghost composition: { Composition Given Full };
+
+    // the type's protocol is that composition's: what holds of the one holds of the other
+    ghost same: { FullLaw Self.Machine.model → FullLaw (protocol Self.Value.kind composition) };
 }
 
-/// So is this type.
-pub fn three_kings_law<V: Value>()
-    ensures { FullLaw (protocol V.Value.kind (kings Given 2)) }
-{
-    ThreeKings::<V>::full_law();
+impl<V: Value> Named for King<V> {
+    ghost composition = { king Given };
+
+    ghost same = { λ law. law };
 }
 
-/// And this one.
-pub fn multivalued_law<V: Value>()
-    ensures { FullLaw (protocol V.Value.kind multivalued) }
+impl<V: Value> Named for ThreeKings<V> {
+    ghost composition = { kings Given 2 };
+
+    ghost same = { λ law. law };
+}
+
+impl<V: Value> Named for Multivalued<V> {
+    ghost composition = { multivalued };
+
+    ghost same = { λ law. law };
+}
+
+/// A type keeps the law of the composition of its name.
+pub fn named_law<M: Named>()
+    ensures { FullLaw (protocol M.Value.kind M.Named.composition) }
 {
-    Multivalued::<V>::full_law();
+    M::full_law();
 }

@@ -12,10 +12,7 @@ mod rows;
 mod runs;
 mod steps;
 
-pub use laws::{
-    King, Multivalued, ThreeKings, compositions_keep_their_laws, king_law, multivalued_law,
-    three_kings_law,
-};
+pub use laws::{King, Multivalued, Named, ThreeKings, compositions_keep_their_laws, named_law};
 
 /// The worked cases hold of the definitions.
 pub fn worked_cases()

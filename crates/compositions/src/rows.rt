@@ -3,7 +3,7 @@
 #[cfg(test)]
 mod tests {
     use counting::{Count, leader};
-    use protocol::{Machine, SILENT, Setup, Value};
+    use protocol::{Heard, Machine, SILENT, Setup, Value};
     use std::test::Fail;
     use values::{Point, Switch};
 
@@ -72,42 +72,37 @@ mod tests {
 
     #[test]
     fn ties_go_to_the_least(rt: HostRuntime) -> Result<(), Fail> {
-        let four = Setup { n: 4, t: 1, own: 0 };
+        let setup = Setup { n: 4, t: 1, own: 0 };
+        let led = |said: u64, row: &[u64]| leader::<Switch>(Heard { setup, said, row });
+        assert_eq!(rt; led(1, &[1, 0, SILENT, SILENT]), (Switch::Hold, 1));
+        assert_eq!(rt; led(1, &[1, 0, 0, 1]), (Switch::Hold, 2));
+        assert_eq!(rt; led(SILENT, &[1, 1, 0, 0]), (Switch::Hold, 2));
         assert_eq!(rt;
-            leader::<Switch>(four, 1, &[1, 0, SILENT, SILENT]),
-            (Switch::Hold, 1)
-        );
-        assert_eq!(rt; leader::<Switch>(four, 1, &[1, 0, 0, 1]), (Switch::Hold, 2));
-        assert_eq!(rt;
-            leader::<Switch>(four, SILENT, &[1, 1, 0, 0]),
-            (Switch::Hold, 2)
-        );
-        assert_eq!(rt;
-            leader::<Switch>(four, SILENT, &[]),
+            led(SILENT, &[]),
             (Switch::Hold, 0),
             "rest if no place reads as a value"
         );
         let gentle = Point::new(1, -1)?;
         let strong = Point::new(7000, 6000)?;
-        let row = [
-            strong.word(),
-            gentle.word(),
-            strong.word(),
-            gentle.word(),
-            SILENT,
-        ];
-        let five = Setup { n: 5, t: 1, own: 0 };
-        assert_eq!(rt;
-            leader::<Point>(five, strong.word(), &row),
-            (gentle, 2),
-            "the smaller load"
-        );
+        let heard = Heard {
+            setup: Setup { n: 5, t: 1, own: 0 },
+            said: strong.word(),
+            row: &[
+                strong.word(),
+                gentle.word(),
+                strong.word(),
+                gentle.word(),
+                SILENT,
+            ],
+        };
+        assert_eq!(rt; leader::<Point>(heard), (gentle, 2), "the smaller load");
         Ok(())
     }
 
     #[test]
     fn more_places_lead(rt: HostRuntime) -> Result<(), Fail> {
-        let seven = Setup { n: 7, t: 2, own: 6 };
+        let setup = Setup { n: 7, t: 2, own: 6 };
+        let led = |said: u64, row: &[u64]| leader::<Point>(Heard { setup, said, row });
         let gentle = Point::new(1, 1)?.word();
         let strong = Point::new(7000, -6000)?;
         let row = [
@@ -119,11 +114,7 @@ mod tests {
             strong.word(),
             gentle,
         ];
-        assert_eq!(rt;
-            leader::<Point>(seven, SILENT, &row),
-            (strong, 3),
-            "without a majority"
-        );
+        assert_eq!(rt; led(SILENT, &row), (strong, 3), "without a majority");
         let late = [
             0,
             gentle,
@@ -134,7 +125,7 @@ mod tests {
             strong.word(),
         ];
         assert_eq!(rt;
-            leader::<Point>(seven, strong.word(), &late),
+            led(strong.word(), &late),
             (strong, 4),
             "a majority that begins late"
         );
