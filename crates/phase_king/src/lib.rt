@@ -22,6 +22,7 @@ pub enum PhaseKing<G> {
     },
     KingRound {
         phase: Phase,
+        // a graded answer is a pair of value and grade, and a machine keeps a value as its word
         word: u64,
         grade: bool,
     },

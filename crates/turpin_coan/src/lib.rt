@@ -18,7 +18,7 @@ pub enum TurpinCoan<G, B> {
     Answered { word: u64 },
 }
 
-// The word of the answer: the graded value's, or that of rest.
+// The word of the answer: the graded value's, or that of rest. A machine keeps values as words.
 fn decided<V: Value>(word: u64, decision: Switch) -> u64
     ensures { result ≡ decided V.Value.kind word decision }
 {
