@@ -2,16 +2,16 @@
 use Rattle.std.proofs.Common.{◌≡◌, ℕ, zero, suc, ◌-◌, ◌<◌, ◌≤◌, Bool, true, false, cond, leb, ◌⊎◌, List, Some, None, Option, sym, refl, ap, ◌∙◌, inl, inr, ⊎_elim, arith}
 use mathlib.Core.Path.{subst⁻¹}
 use Rattle.std.proofs.lemmas.Bool.{cases_eq, leb-true, le-leb, lt-leb}
+use Rattle.std.proofs.lemmas.Option.{none-some}
 use Rattle.protocol.specs.declared.setup.Setup.{Setup}
 use Rattle.protocol.specs.Kind.{Kind, Lawful}
 use Rattle.protocol.specs.Laws.{WeakLaw}
 use Rattle.protocol.specs.Orderly.{Orderly, ReadsOnly, Still}
 use Rattle.protocol.specs.Places.{places}
 use Rattle.protocol.specs.Protocol.{Admitted, after}
-use Rattle.protocol.specs.Admission.{unless_refused}
 use Rattle.protocol.specs.Run.{Run, Correct, Unanimous, answered, station}
 use Rattle.protocol.specs.Words.{silent, heard_at}
-use Rattle.protocol.proofs.AdmissionLaw.{not_refused, station_admitted}
+use Rattle.protocol.proofs.AdmissionLaw.{not_idle, station_admitted}
 use Rattle.protocol.proofs.KindLaw.{word_injective}
 use Rattle.protocol.proofs.PlacesLaw.{rivals}
 use Rattle.protocol.proofs.QuorumLaw.{quorum, carried}
@@ -26,7 +26,7 @@ use Rattle.counting.proofs.MajorityLaw.{majority_is_leader}
 
 module _ {V : Type 0} (K : Kind V) where
   begins : (s : Setup) (v : V) → Admitted (counting K) s → count_begun K s v ≡ Voting s (K.word v)
-  begins s v a = ap (λ o. unless_refused o Idle (Voting s (K.word v))) (not_refused (counting K) s a)
+  begins s v a = not_idle (counting K) s Idle (Voting s (K.word v)) a
 
   -- what the station makes of a row
   abbrev made : (s : Setup) (entry : V) (row : List ℕ) → ℕ
@@ -61,9 +61,8 @@ module _ {V : Type 0} (K : Kind V) where
       reading s v rows (suc k) a l = absurd (omega arith)
 
       over : (s : CountState) (a : Option V) → count_answer K s ≡ Some a → Still (counting K) s
-      over Idle a e = record { says = refl; stays = λ row. refl }
-      over (Voting s word) a e = let z : ◌≡◌ {A = ℕ} 0 1 = cc in absurd (omega arith)
       over (Answered word) a e = record { says = refl; stays = λ row. refl }
+      over s a e = absurd (none-some a e)
 
 module _ {V : Type 0} (K : Kind V) (lawful : Lawful K) where
   pub counting_rule : QuorumRule K
@@ -102,7 +101,7 @@ module _ {V : Type 0} (K : Kind V) (lawful : Lawful K) where
           by false f g =
               let r : K.reads silent ≡ Some v = rw f at g in
               let h = lawful.silence in
-              let z : ◌≡◌ {A = ℕ} 0 1 = cc in absurd (omega arith)
+              absurd (grind arith)
 
       none : (s : Setup) (entry : V) (row : List ℕ) → Admitted (counting K) s →
           ((v : V) → places_of K s entry row v < s.n - s.t) → answer_to K s entry row ≡ Some None

@@ -1,9 +1,8 @@
 -- Grading over a weak vote: its rule, that it is orderly, and the graded law.
 use Rattle.std.proofs.Common.{◌≡◌, ℕ, suc, ◌+◌, ◌-◌, ◌*◌, ◌<◌, ◌≤◌, Bool, true, leb, List, Some, None, Option, sym, refl, ap, ◌∙◌, ⊎_elim, arith}
-use mathlib.Core.Path.{subst⁻¹}
-use Rattle.std.proofs.lemmas.Bool.{cases_lt, leb-true, le-leb, lt-leb}
+use Rattle.std.proofs.lemmas.Bool.{leb-true, le-leb, lt-leb}
+use Rattle.std.proofs.lemmas.Option.{none-some}
 use Rattle.protocol.specs.declared.setup.Setup.{Setup}
-use Rattle.protocol.specs.Admission.{unless_refused}
 use Rattle.protocol.specs.Kind.{Kind, Lawful, word_of}
 use Rattle.protocol.specs.Laws.{WeakLaw, GradedLaw}
 use Rattle.protocol.specs.Nest.{Nest, Begins}
@@ -11,9 +10,9 @@ use Rattle.protocol.specs.Orderly.{Orderly, Still}
 use Rattle.protocol.specs.Places.{places}
 use Rattle.protocol.specs.Protocol.{Protocol, Takes, Admitted, after}
 use Rattle.protocol.specs.Run.{Run, Correct, Unanimous, reached, answered, station}
-use Rattle.protocol.proofs.AdmissionLaw.{not_refused, takes_too, station_admitted}
+use Rattle.protocol.proofs.AdmissionLaw.{not_idle, takes_too, station_admitted}
 use Rattle.protocol.proofs.KindLaw.{silent_word, value_word, told_value}
-use Rattle.protocol.proofs.NestLaw.{Underway, beyond, underway, stretch, goes_on}
+use Rattle.protocol.proofs.NestLaw.{Underway, beyond, underway_too, stretch, goes_on}
 use Rattle.protocol.proofs.QuorumLaw.{quorum, carried, minority, backed}
 use Rattle.protocol.proofs.RowLaw.{said_in, read_in, read_exact}
 use Rattle.protocol.proofs.RunLaw.{answers, only_answer}
@@ -62,7 +61,7 @@ module _ {V : Type 0} (K : Kind V) (W : Protocol V (Option V)) (orderly : Orderl
   -- one station, whatever it hears
   module _ (s : Setup) (v : V) (rows : ℕ → List ℕ) (a : Admitted L s) where
     begins : L.begun s v ≡ Voting s (W.begun s v)
-    begins = ap (λ o. unless_refused o Idle (Voting s (W.begun s v))) (not_refused L s a)
+    begins = not_idle L s Idle (Voting s (W.begun s v)) a
 
     weak_admitted : Admitted W s
     weak_admitted = record { takes = weak_takes a.takes; own_number = a.own_number }
@@ -77,16 +76,13 @@ module _ {V : Type 0} (K : Kind V) (W : Protocol V (Option V)) (orderly : Orderl
 
     before_end : (k : ℕ) → k < L.rounds s.n s.t →
         Underway L s.n s.own (after L (L.begun s v) rows k)
-    before_end k l = ⊎_elim
-        (underway (nest s) orderly s v weak_admitted (L.begun s v) rows (λ k. k) (λ k. refl) begins k)
-        (λ (h : poll ≤ k).
-        let e : k ≡ poll = omega (arith, last a.takes) in
-        let f = orderly.late s v rows weak_admitted in
-        subst⁻¹ (Underway L s.n s.own) (ap (after L (L.begun s v) rows) e ∙ polls f.0 f.1) (record {
+    before_end k l =
+        underway_too (nest s) orderly s v weak_admitted (L.begun s v) rows (λ k. k) (λ k. refl) begins
+        (λ answer. record {
           unanswered = refl;
           reads = λ row row' same. ap (graded K W (s.n - s.t)) (leader_same K _ _ s.n same);
-        }))
-        (cases_lt k poll)
+        })
+        k (omega (arith, last a.takes))
 
   pub grading_orderly : Orderly L
   grading_orderly = record {
@@ -107,10 +103,8 @@ module _ {V : Type 0} (K : Kind V) (W : Protocol V (Option V)) (orderly : Orderl
   }
     where
       over : (x : Grading W.State) (a : V × Bool) → grading_answer K W x ≡ Some a → Still L x
-      over Idle a e = record { says = refl; stays = λ row. refl }
-      over (Voting s weak) a e = let z : ◌≡◌ {A = ℕ} 0 1 = cc in absurd (omega arith)
-      over (Polling s word) a e = let z : ◌≡◌ {A = ℕ} 0 1 = cc in absurd (omega arith)
       over (Answered word grade) a e = record { says = refl; stays = λ row. refl }
+      over x a e = absurd (none-some a e)
 
   module _ (lawful : Lawful K) (law : WeakLaw W) (n t : ℕ) (R : Run L n t) where
     weak_begins : Begins R (λ j. nest (station n t j)) (λ k. k) R.entry

@@ -108,7 +108,7 @@ module _ {V : Type 0} (K : Kind V) (lawful : Lawful K) where
     one_more k best None l e h = record {
       from = h.from;
       unbeaten = λ j u m r. ⊎_elim
-          (λ d. absurd (let a : K.reads (row k) ≡ Some u = rw (← d) r in let z : ◌≡◌ {A = ℕ} 0 1 = cc in omega arith))
+          (λ d. absurd (let a : K.reads (row k) ≡ Some u = rw (← d) r in grind arith))
           (λ d. h.unbeaten j u (omega arith) r)
           (cases_eq j k);
     }
@@ -193,7 +193,7 @@ module _ {V : Type 0} (K : Kind V) (lawful : Lawful K) where
             let p = place_of row (K.word best.0) n (let s = f.0 in let e = has in omega arith) in
             let a : K.reads (row p.0) ≡ Some best.0 = ap K.reads p.2 ∙ lawful.reads_word best.0 in
             let b = d p.0 p.1 in
-            let z : ◌≡◌ {A = ℕ} 0 1 = cc in absurd (omega arith))
+            absurd (grind arith))
             h.from
 
     pub leader_leads : Leads K row n (leader K row n)

@@ -32,7 +32,7 @@ module _ {V : Type 0} (K : Kind V) (lawful : Lawful K) (row : ℕ → ℕ) (n : 
             let p = place_of row (K.word v) n some in
             let a : K.reads (row p.0) ≡ Some v = ap K.reads p.2 ∙ lawful.reads_word v in
             let b = d p.0 p.1 in
-            let z : ◌≡◌ {A = ℕ} 0 1 = cc in absurd (omega arith);
+            absurd (grind arith);
       }
 
   pub majority_is_leader : (best : V × ℕ) → best.1 ≡ places row (K.word best.0) n → n < 2 * best.1 →
