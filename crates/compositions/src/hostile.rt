@@ -68,6 +68,7 @@ mod tests {
             case: Case,
         ) -> Result<Vec<Option<M::Answer>>, AllocError> {
             let mut machines = self.begun::<M>(alloc, case)?;
+            // by number: what is in play and what is forged depends on it
             for number in 0..M::rounds(case.n, case.t) {
                 run_round(alloc, &mut machines, case, self.round(number))?;
             }
@@ -133,6 +134,8 @@ mod tests {
         }
         Ok(true)
     }
+
+    // One test for each vote, so that a failure names the vote.
 
     #[test]
     fn grading_keeps_its_law(rt: HostRuntime) -> Result<(), AllocError> {

@@ -73,8 +73,11 @@ mod tests {
     // A machine has its answer after as many rounds and no sooner, and then is silent, whatever it hears.
     fn ends_after<M: Machine<Value = Switch>>(setup: Setup, rounds: usize) -> bool {
         let mut machine = M::begin(setup, Switch::Go);
-        for k in 0..rounds {
-            if machine.answer().is_some() || (k == 0 && machine.say() != 1) {
+        if machine.say() != 1 {
+            return false;
+        }
+        for _ in 0..rounds {
+            if machine.answer().is_some() {
                 return false;
             }
             machine.hear(&[1; 64]);

@@ -44,6 +44,7 @@ impl<W: WeakVote> Machine for Grading<W> {
         (W::rounds(n, t) + 1).min(MANY_ROUNDS)
     }
 
+    // as every layer begins, but with states of its own: what they share is `refusal`
     fn begin(setup: Setup, value: W::Value) -> Grading<W> {
         match Self::refusal(setup) {
             Some(_) => Grading::Idle,

@@ -27,6 +27,7 @@ pub trait Machine: Copy {
         ensures { result ≡ model.max_faulty };
 
     /// How many rounds `n` stations take of which `t` may be faulty; 65,536 also stands for more.
+    // n and t alone, and no setup: by the rules the rounds depend on nothing else
     fn rounds(n: usize, t: usize) -> usize
         ensures value { result ≡ model.rounds n t }
         ensures bound { result ≤ 65536 };
@@ -62,6 +63,8 @@ pub trait Machine: Copy {
     fn orderly()
         ensures { Orderly model };
 }
+
+// Three traits and not one: by the rules each law is promised by a function of a trait of its own, built on `Machine`.
 
 /// A vote that answers a value or none.
 pub trait WeakVote: Machine<Answer = Option<<Self as Machine>::Value>> {

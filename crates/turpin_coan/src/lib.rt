@@ -49,6 +49,7 @@ impl<G: GradedVote, B: FullVote + Machine<Value = Switch>> Machine for TurpinCoa
         (G::rounds(n, t) + B::rounds(n, t)).min(MANY_ROUNDS)
     }
 
+    // as every layer begins and answers, but with states of its own
     fn begin(setup: Setup, value: G::Value) -> TurpinCoan<G, B> {
         match Self::refusal(setup) {
             Some(_) => TurpinCoan::Idle,
