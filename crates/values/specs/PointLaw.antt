@@ -1,16 +1,17 @@
 -- Operating points are a lawful kind of value.
-use Rattle.std.specs.Prelude.{◌≡◌, ℕ, ◌*◌, ◌/◌, ◌%◌, ◌≤◌, Bool, true, false, cond, ◌⊎◌, List, [], ◌∷◌, ℤ, pos, negsuc, ◌-ℤ◌, Some, Ok, ◌≢◌, ◌&&◌, nat_le, nat_eq, slice_index, unsigned_abs, refl}
+use Rattle.std.specs.Prelude.{◌≡◌, ℕ, ◌*◌, ◌/◌, ◌%◌, ◌≤◌, Bool, true, false, cond, ◌⊎◌, [], ◌∷◌, ℤ, pos, negsuc, ◌-ℤ◌, Some, Ok, ◌≢◌, ◌&&◌, nat_le, nat_eq, unsigned_abs, refl}
 use Rattle.std.proofs.Common.{ap, sym, ◌∙◌, inl, inr, arith}
 use mathlib.Core.HLevel.{is_prop→PathP, ×_prop}
 use Rattle.std.proofs.Math.Bridge.{le_prop}
 use Rattle.std.specs.Int.Signed.{non_neg}
 use Rattle.std.proofs.lemmas.Int.{ints}
-use Rattle.std.proofs.lemmas.Bool.{leb-true, le-leb, false≢true}
+use Rattle.std.proofs.lemmas.Bool.{leb-true, le-leb}
 use Rattle.std.proofs.lemmas.Bool.Decides.{nat_tests, Decides-and}
 use Rattle.std.specs.Result.{result_ok}
 use Rattle.std.specs.Bool.{Decides, one_answer}
 use Rattle.std.specs.Cmp.{IsTotalOrder, Equal-is, unsigned_Decides, signed_Decides}
-use Rattle.std.specs.Cmp.Lexicographic.{slice_cmp, texts_ties, pointwise_decides}
+use Rattle.std.specs.Cmp.Lexicographic.{slice_cmp}
+use Rattle.std.proofs.lemmas.Map.Lookups.{exact_bytes}
 use Rattle.std.specs.declared.cmp.Ordering.{Ordering}
 use Rattle.std.specs.declared.cmp.Ordering.TheVariants.{Less, Equal, Greater}
 use Rattle.std.specs.Ordering.{nat_cmp, int_eq, is_lt, is_eq, ordering_reverse}
@@ -39,8 +40,8 @@ new_point_lem a s p e f =
     go : (x y : Bool) (h : x ≡ true → a ≤ max_pressure) (k : y ≡ true → unsigned_abs s ≤ max_speed) →
         x ≡ true → y ≡ true → Ok p ≡ made a s x y h k
     go true true h k t u = ap Ok (same_point p (record { pressure = a; speed = s; limits = (h refl, k refl) }) e f)
-    go true false h k t u = absurd (false≢true u)
-    go false y h k t u = absurd (false≢true t)
+    go true false h k t u = cc
+    go false y h k t u = cc
 
 -- and a point has the numbers that it was made of
 pub made_of : (a : ℕ) (s : ℤ) (p : Point) → result_ok (new_point a s) ≡ Some p → (a ≡ p.pressure) × (s ≡ p.speed)
@@ -50,42 +51,31 @@ made_of a s p e =
   where
     go : (x y : Bool) (h : x ≡ true → a ≤ max_pressure) (k : y ≡ true → unsigned_abs s ≤ max_speed) →
         result_ok (made a s x y h k) ≡ Some p → (a ≡ p.pressure) × (s ≡ p.speed)
-    go true true h k t =
-        let q : Point = record { pressure = a; speed = s; limits = (h refl, k refl) } in
-        let u : q ≡ p = cc in
-        (ap (λ (x : Point). x.pressure) u, ap (λ (x : Point). x.speed) u)
-    go true false h k t = absurd (grind arith)
-    go false y h k t = absurd (grind arith)
-
-word_high : (p : Point) → p.pressure ≡ point_word p / 65536
-word_high p = let h = p.limits.1 in omega (arith, ints)
-
-word_low : (p : Point) → p.speed ≡ pos (point_word p % 65536) -ℤ pos 6000
-word_low p = let h = p.limits.1 in omega (arith, ints)
+    go true true h k t = (cc, cc)
+    go true false h k t = cc
+    go false y h k t = cc
 
 pub read_point : (w : ℕ) (p : Point) → p.pressure ≡ w / 65536 → p.speed ≡ pos (w % 65536) -ℤ pos 6000 →
     Some p ≡ point_reads w
 read_point w p e f = ap result_ok (new_point_lem (w / 65536) (pos (w % 65536) -ℤ pos 6000) p e f)
 
 reads_word : (p : Point) → point_reads (point_word p) ≡ Some p
-reads_word p = sym (read_point (point_word p) p (word_high p) (word_low p))
+reads_word p = sym (read_point (point_word p) p (omega (arith, ints)) (omega (arith, ints)))
 
 word_reads : (w : ℕ) (p : Point) → point_reads w ≡ Some p → w ≡ point_word p
 word_reads w p e =
-    let h = made_of (w / 65536) (pos (w % 65536) -ℤ pos 6000) p e in omega (arith, ints, h.0, h.1)
+    let h = made_of (w / 65536) (pos (w % 65536) -ℤ pos 6000) p e in omega (arith, ints)
 
 -- the size and the sign make the speed
 same_speed : (s t : ℤ) → unsigned_abs s ≡ unsigned_abs t →
     ◌≡◌ {A = ℕ} (cond (non_neg s) 1 0) (cond (non_neg t) 1 0) → s ≡ t
-same_speed (pos a) (pos b) e f = ap pos e
-same_speed (pos a) (negsuc b) e f = absurd (omega arith)
-same_speed (negsuc a) (pos b) e f = absurd (omega arith)
-same_speed (negsuc a) (negsuc b) e f = ap negsuc (omega arith)
+same_speed (pos a) (pos b) e f = cc
+same_speed (pos a) (negsuc b) e f = cc
+same_speed (negsuc a) (pos b) e f = cc
+same_speed (negsuc a) (negsuc b) e f = cc
 
 same_from_key : (p q : Point) → point_key p ≡ point_key q → p ≡ q
-same_from_key p q e =
-    same_point p q (ap (λ (k : List ℕ). slice_index k 1) e)
-    (same_speed p.speed q.speed (ap (λ (k : List ℕ). slice_index k 2) e) (ap (λ (k : List ℕ). slice_index k 3) e))
+same_from_key p q e = same_point p q (cc) (same_speed p.speed q.speed (cc) (cc))
 
 -- nothing is below the key of rest, and nothing else has that key
 rest_below : (a b c d : ℕ) → d ≤ 1 → (b ≡ 0 → c ≡ 0 → d ≢ 1) → (c ≡ 0 → d ≡ 1) →
@@ -98,7 +88,7 @@ sign_small (negsuc n) = omega arith
 
 sign_zero : (s : ℤ) → unsigned_abs s ≡ 0 → ◌≡◌ {A = ℕ} (cond (non_neg s) 1 0) 1
 sign_zero (pos n) e = refl
-sign_zero (negsuc n) e = absurd (omega arith)
+sign_zero (negsuc n) e = cc
 
 rest_least : (p : Point) → (p ≢ rest_point) → is_lt (point_cmp rest_point p) ≡ true
 rest_least p n =
@@ -112,10 +102,7 @@ pub point_total : IsTotalOrder point_cmp
 point_total = on_total point_key nat_list_cmp_total
 
 same_by_order : (p q : Point) → point_cmp p q ≡ Equal → p ≡ q
-same_by_order p q e =
-    let xs = point_key p in
-    let ys = point_key q in
-    same_from_key p q ((pointwise_decides unsigned_Decides xs ys).0 (texts_ties xs ys ∙ ap is_eq e))
+same_by_order p q e = same_from_key p q (exact_bytes _ _ e)
 
 one_less : (p q : Point) → (p ≢ q) → (o : Ordering) → point_cmp p q ≡ o →
     (is_lt o ≡ true) ⊎ (is_lt (ordering_reverse o) ≡ true)
