@@ -1,1 +1,2 @@
+pub mod RoundLaw
 pub mod PromiseLaw

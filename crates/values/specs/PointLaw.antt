@@ -55,12 +55,18 @@ made_of a s p e =
     go true false h k t = cc
     go false y h k t = cc
 
+word_high : (p : Point) → p.pressure ≡ point_word p / 65536
+word_high p = omega (arith, ints)
+
+word_low : (p : Point) → p.speed ≡ pos (point_word p % 65536) -ℤ pos 6000
+word_low p = omega (arith, ints)
+
 pub read_point : (w : ℕ) (p : Point) → p.pressure ≡ w / 65536 → p.speed ≡ pos (w % 65536) -ℤ pos 6000 →
     Some p ≡ point_reads w
 read_point w p e f = ap result_ok (new_point_lem (w / 65536) (pos (w % 65536) -ℤ pos 6000) p e f)
 
 reads_word : (p : Point) → point_reads (point_word p) ≡ Some p
-reads_word p = sym (read_point (point_word p) p (omega (arith, ints)) (omega (arith, ints)))
+reads_word p = sym (read_point (point_word p) p (word_high p) (word_low p))
 
 word_reads : (w : ℕ) (p : Point) → point_reads w ≡ Some p → w ≡ point_word p
 word_reads w p e =
