@@ -2,11 +2,11 @@
 use Rattle.std.proofs.Common.{◌≡◌, ℕ, zero, suc, ◌+◌, ◌*◌, ◌<◌, ◌≤◌, Bool, cond, ltb, List, [], ◌∷◌, length, Some, None, sym, refl, ap, ◌∙◌, arith}
 use mathlib.Core.Path.{subst⁻¹}
 use Rattle.std.proofs.lemmas.Bool.{lt-ltb, le-ltb}
+use Rattle.std.proofs.lemmas.Option.{none-some}
 use Rattle.protocol.specs.declared.setup.Setup.{Setup}
-use Rattle.protocol.specs.Admission.{unless_refused}
 use Rattle.protocol.specs.Orderly.{Orderly, ReadsOnly, Still}
 use Rattle.protocol.specs.Protocol.{Takes, Admitted, after}
-use Rattle.protocol.proofs.AdmissionLaw.{not_refused}
+use Rattle.protocol.proofs.AdmissionLaw.{not_idle}
 use Rattle.values.specs.declared.switch.Switch.{Switch}
 use Rattle.eig.specs.Chain.{Chain, longer_chains, resolved}
 use Rattle.eig.specs.Numbering.{chains, number}
@@ -77,7 +77,7 @@ module _ (s : Setup) (v : Switch) (rows : ℕ → List ℕ) where
   module _ (admitted : Admitted eig s) where
     pub gathers : (k : ℕ) → k ≤ s.t → at k ≡ gathering s k (level_word s.n k (held s v rows))
     gathers zero l =
-        ap (λ o. unless_refused o idle (gathering s 0 (level_word s.n 0 (held s v rows)))) (not_refused eig s admitted)
+        not_idle eig s idle (gathering s 0 (level_word s.n 0 (held s v rows))) admitted
     gathers (suc k) l =
         heard k (gathers k (omega arith)) ∙
         (gathers_on s k (words k) l ∙
@@ -106,9 +106,8 @@ module _ (s : Setup) (v : Switch) (rows : ℕ → List ℕ) where
         gathered_same s k _ _ (λ r m. ap (counted (length (chains s.n k))) (h r m)))
 
 still_answered : (x : State) (a : Switch) → eig_answer x ≡ Some a → Still eig x
-still_answered idle a e = record { says = refl; stays = λ row. refl }
-still_answered (gathering s k level) a e = let z : ◌≡◌ {A = ℕ} 0 1 = cc in absurd (omega arith)
 still_answered (answered v) a e = record { says = refl; stays = λ row. refl }
+still_answered x a e = absurd (none-some a e)
 
 pub eig_orderly : Orderly eig
 eig_orderly = record {
