@@ -80,7 +80,7 @@ mod tests {
         }
     }
 
-    // Each station says its word and hears its row.
+    // Each station says its word and hears its row. What allocates is handed the allocator, here as above.
     fn run_round<M: Machine>(
         alloc: Global,
         machines: &mut [M],

@@ -6,7 +6,8 @@ ghost use Rattle.counting.specs.Majority.{OnlyCandidate, Majority};
 
 use protocol::{Heard, SILENT, Value};
 
-/// The value that most places read as, the least one on equal counts, with their number.
+/// The value that most places read as, the least one on equal counts, with their number. By the rules a pair, rest with
+/// 0 where no place reads as a value.
 pub fn leader<V: Value>(heard: Heard) -> (V, usize)
     ensures value { result ≡ leader V.Value.kind (as_heard heard.entry) heard.entry.setup.n }
     ensures leads { Leads V.Value.kind (as_heard heard.entry) heard.entry.setup.n result }

@@ -112,6 +112,7 @@ impl<G: GradedVote> Machine for PhaseKing<G> {
         }
     }
 
+    // as Turpin-Coan answers, but in a state of its own
     fn answer(&self) -> Option<G::Value> {
         match self {
             PhaseKing::Answered { word } => Some(G::Value::read_or_rest(*word)),

@@ -22,7 +22,8 @@ impl Phase {
         }
     }
 
-    // The value after the king's round: the king's for who has grade 0, the own one for who has grade 1.
+    // The value after the king's round: the king's for who has grade 0, the own one for who has grade 1. Word and grade
+    // are the pair that a graded vote answers.
     pub(crate) fn after_king<V: Value>(self, word: u64, grade: bool, row: &[u64]) -> V
         ensures { result ≡ after_king V.Value.kind self word grade row.now }
     {

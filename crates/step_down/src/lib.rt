@@ -8,7 +8,7 @@ ghost use Rattle.step_down.specs.StepDown.{answering, weak_form, graded_form};
 use protocol::{FullVote, GradedVote, Machine, Setup, WeakVote};
 use std::marker::PhantomData;
 
-/// The form in which a full vote's answer is given by a vote that promises less.
+/// The form in which a full vote's answer is given by a vote that promises less. No `From` does it: none makes a pair.
 pub trait Form<V>: Copy {
     type Answer: Copy;
 

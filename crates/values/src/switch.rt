@@ -27,6 +27,7 @@ impl Value for Switch {
 
     ghost lawful = { Prim.search rules };
 
+    // the two words are fixed by the rules
     fn word(self) -> u64 {
         match self {
             Switch::Hold => 0,
