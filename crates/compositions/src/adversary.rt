@@ -4,6 +4,7 @@
 pub mod tests {
     use protocol::SILENT;
     use std::alloc::{AllocError, Global};
+    use std::iter;
 
     // Which stations are faulty: the first ones are kings.
     #[derive(Clone, Copy)]
@@ -103,7 +104,7 @@ pub mod tests {
             }
         }
 
-        // The row of a listener, given what all stations say.
+        // The row of a listener, given what all stations say: 64 places, of which those from n on are not to be read.
         pub fn row(
             self,
             alloc: Global,
@@ -111,14 +112,15 @@ pub mod tests {
             said: &[u64],
             listener: usize,
         ) -> Result<Vec<u64>, AllocError> {
-            let words = said.iter().enumerate().map(|(j, word)| {
+            let said = said.iter().copied().chain(iter::repeat(SILENT));
+            let heard = said.take(64).enumerate().map(|(j, word)| {
                 if self.is_faulty(j) {
                     self.forged(round, j, listener)
                 } else {
-                    *word
+                    word
                 }
             });
-            words.collect(alloc)
+            heard.collect(alloc)
         }
 
         // Whether all correct stations enter the second value, or all the first one.
