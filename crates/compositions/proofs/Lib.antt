@@ -1,1 +1,2 @@
 pub mod CompositionLaw
+pub mod SameLaw

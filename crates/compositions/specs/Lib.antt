@@ -1,3 +1,4 @@
 pub mod Composition
+pub mod Same
 pub mod Named
 pub mod Worked

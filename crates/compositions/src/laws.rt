@@ -1,6 +1,7 @@
 ghost use Rattle.protocol.specs.Laws.{FullLaw};
 ghost use Rattle.compositions.specs.Composition.{Composition, Given, Full, protocol, Compositions};
 ghost use Rattle.compositions.specs.Named.{king, kings, multivalued};
+ghost use Rattle.compositions.specs.Same.{SameVote, itself};
 
 use counting::{Count, Grading};
 use phase_king::PhaseKing;
@@ -26,35 +27,35 @@ pub fn compositions_keep_their_laws<V: Value>()
     lawful_kind::<Switch>();
 }
 
-/// A full vote on values of a kind that is a composition, which has a name.
-pub trait Named: FullVote {
+/// A type of vote that is a composition of this name: they cannot be told apart.
+pub trait NamedComposition: FullVote {
     ghost composition: { Composition Given Full };
 
-    // the type's protocol is that composition's: what holds of the one holds of the other
-    ghost same: { FullLaw Self.Machine.model → FullLaw (protocol Self.Value.kind composition) };
+    ghost same: { SameVote Self.Machine.model (protocol Self.Value.kind composition) };
 }
 
-impl<V: Value> Named for King<V> {
+impl<V: Value> NamedComposition for King<V> {
     ghost composition = { king Given };
 
-    ghost same = { λ law. law };
+    ghost same = { itself _ };
 }
 
-impl<V: Value> Named for ThreeKings<V> {
+impl<V: Value> NamedComposition for ThreeKings<V> {
     ghost composition = { kings Given 2 };
 
-    ghost same = { λ law. law };
+    ghost same = { itself _ };
 }
 
-impl<V: Value> Named for Multivalued<V> {
+impl<V: Value> NamedComposition for Multivalued<V> {
     ghost composition = { multivalued };
 
-    ghost same = { λ law. law };
+    ghost same = { itself _ };
 }
 
-/// A type keeps the law of the composition of its name.
-pub fn named_law<M: Named>()
-    ensures { FullLaw (protocol M.Value.kind M.Named.composition) }
+/// Each such type is its composition, whose law it keeps.
+pub fn named_law<M: NamedComposition>()
+    ensures same { SameVote M.Machine.model (protocol M.Value.kind M.NamedComposition.composition) }
+    ensures law { FullLaw (protocol M.Value.kind M.NamedComposition.composition) }
 {
     M::full_law();
 }

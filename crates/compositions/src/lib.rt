@@ -12,7 +12,9 @@ mod rows;
 mod runs;
 mod steps;
 
-pub use laws::{King, Multivalued, Named, ThreeKings, compositions_keep_their_laws, named_law};
+pub use laws::{
+    King, Multivalued, NamedComposition, ThreeKings, compositions_keep_their_laws, named_law,
+};
 
 /// The worked cases hold of the definitions.
 pub fn worked_cases()

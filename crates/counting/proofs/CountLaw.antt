@@ -19,7 +19,8 @@ use Rattle.protocol.proofs.RowLaw.{said_in, read_in, read_exact}
 use Rattle.counting.specs.declared.count.CountState.{CountState}
 use Rattle.counting.specs.declared.count.CountState.TheVariants.{Idle, Voting, Answered}
 use Rattle.counting.specs.Counting.{settled, counting, count_begun, count_heard, count_said, count_answer}
-use Rattle.counting.specs.Leader.{view, leader}
+use Rattle.protocol.specs.Heard.{view}
+use Rattle.counting.specs.Leader.{leader}
 use Rattle.counting.specs.QuorumRule.{QuorumRule, answer_to, places_of}
 use Rattle.counting.proofs.LeaderLaw.{leader_same, leader_leads}
 use Rattle.counting.proofs.MajorityLaw.{majority_is_leader}

@@ -20,7 +20,8 @@ use Rattle.counting.specs.declared.grading.Grading.{Grading}
 use Rattle.counting.specs.declared.grading.Grading.TheVariants.{Idle, Voting, Polling, Answered}
 use Rattle.counting.specs.Grading.{grading, graded, grading_heard, grading_said, grading_answer}
 use Rattle.counting.specs.GradeRule.{GradeRule, polled}
-use Rattle.counting.specs.Leader.{view, leader, Leads}
+use Rattle.protocol.specs.Heard.{view}
+use Rattle.counting.specs.Leader.{leader, Leads}
 use Rattle.counting.proofs.LeaderLaw.{leader_same, leader_leads, leads_only}
 use Rattle.counting.proofs.MajorityLaw.{majority_is_leader, most_is_leader}
 

@@ -8,7 +8,8 @@ use Rattle.protocol.specs.Admission.{refusal, unless_refused}
 use Rattle.protocol.specs.Words.{silent}
 use Rattle.counting.specs.declared.count.CountState.{CountState}
 use Rattle.counting.specs.declared.count.CountState.TheVariants.{Idle, Voting, Answered}
-use Rattle.counting.specs.Leader.{view, leader}
+use Rattle.protocol.specs.Heard.{view}
+use Rattle.counting.specs.Leader.{leader}
 
 module _ {V : Type 0} (K : Kind V) where
   -- the word of the leader if it has the quorum, else the silent word

@@ -5,7 +5,8 @@ use Rattle.protocol.specs.Kind.{Kind}
 use Rattle.protocol.specs.Protocol.{Protocol}
 use Rattle.counting.specs.declared.grading.Grading.TheVariants.{Polling}
 use Rattle.counting.specs.Grading.{grading}
-use Rattle.counting.specs.Leader.{view, Leads}
+use Rattle.protocol.specs.Heard.{view}
+use Rattle.counting.specs.Leader.{Leads}
 
 module _ {V : Type 0} (K : Kind V) (W : Protocol V (Option V)) where
   -- what a station answers that said `word` in the last round and heard this row

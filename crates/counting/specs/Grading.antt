@@ -9,7 +9,8 @@ use Rattle.protocol.specs.Nest.{on_answer}
 use Rattle.protocol.specs.Words.{silent}
 use Rattle.counting.specs.declared.grading.Grading.{Grading}
 use Rattle.counting.specs.declared.grading.Grading.TheVariants.{Idle, Voting, Polling, Answered}
-use Rattle.counting.specs.Leader.{view, leader}
+use Rattle.protocol.specs.Heard.{view}
+use Rattle.counting.specs.Leader.{leader}
 
 module _ {V : Type 0} (K : Kind V) (W : Protocol V (Option V)) where
   abbrev pub grading_rounds : (n t : ℕ) → ℕ

@@ -3,15 +3,9 @@ use Rattle.std.specs.Prelude.{◌≡◌, ℕ, zero, suc, ◌<◌, ◌≤◌, Boo
 use Rattle.std.specs.List.{filter_map, range_with_len}
 use Rattle.protocol.specs.Kind.{Kind}
 use Rattle.protocol.specs.Places.{places}
-use Rattle.protocol.specs.Words.{heard_at}
-use Rattle.protocol.specs.declared.setup.Setup.{Setup}
 
 -- By the laws of a kind a place reads as v exactly if it holds the word of v, so `places row (K.word v) n` is how many
 -- places read as v.
-
--- a row as the station, which said `said`, reads it
-abbrev pub view : Setup → (said : ℕ) → List ℕ → ℕ → ℕ
-view s said row = heard_at s.own said row
 
 module _ {V : Type 0} (K : Kind V) where
   -- of two values with their counts, whether the second beats the first: a larger count, or an equal one and less

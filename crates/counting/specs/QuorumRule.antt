@@ -5,7 +5,7 @@ use Rattle.protocol.specs.Kind.{Kind}
 use Rattle.protocol.specs.Places.{places}
 use Rattle.protocol.specs.Protocol.{Admitted}
 use Rattle.counting.specs.Counting.{counting}
-use Rattle.counting.specs.Leader.{view}
+use Rattle.protocol.specs.Heard.{view}
 
 module _ {V : Type 0} (K : Kind V) (s : Setup) (entry : V) (row : List ℕ) where
   -- what a station answers that entered `entry` and heard this row

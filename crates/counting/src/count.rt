@@ -41,6 +41,7 @@ impl<V: Value> Machine for Count<V> {
         1
     }
 
+    // as every vote begins, but in states of its own: what they share is `refusal`
     fn begin(setup: Setup, value: V) -> Count<V> {
         let state = match Self::refusal(setup) {
             Some(_) => CountState::Idle,

@@ -4,7 +4,7 @@ ghost use Rattle.counting.specs.GradeRule.{GradeRule};
 ghost use Rattle.counting.specs.Grading.{grading, grading_state};
 
 use crate::tally::leader;
-use protocol::{GradedVote, Heard, MANY_ROUNDS, Machine, SILENT, Setup, Value, WeakVote};
+use protocol::{GradedVote, Heard, Machine, SILENT, Setup, Value, WeakVote, saturated};
 
 /// Graded consensus over a weak vote: its answers are told and counted in one round more. By the rules a machine keeps
 /// values as words and no value as silence, and a graded answer is a pair of value and grade.
@@ -41,10 +41,10 @@ impl<W: WeakVote> Machine for Grading<W> {
     }
 
     fn rounds(n: usize, t: usize) -> usize {
-        (W::rounds(n, t) + 1).min(MANY_ROUNDS)
+        saturated(W::rounds(n, t) + 1)
     }
 
-    // as every layer begins, but with states of its own: what they share is `refusal`
+    // as every vote begins, but in states of its own: what they share is `refusal`
     fn begin(setup: Setup, value: W::Value) -> Grading<W> {
         match Self::refusal(setup) {
             Some(_) => Grading::Idle,

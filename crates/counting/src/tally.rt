@@ -17,11 +17,11 @@ pub fn leader<V: Value>(heard: Heard) -> (V, usize)
     if let Some(best) = majority::<V>(heard) {
         return best;
     }
-    foremost(heard)
+    leader_by_counting(heard)
 }
 
-// What is ahead of rest and of each value that a place reads as, taken one after the other.
-fn foremost<V: Value>(heard: Heard) -> (V, usize)
+// Which is ahead among rest and the values that places read as, taken one after the other.
+fn leader_by_counting<V: Value>(heard: Heard) -> (V, usize)
     ensures { result ≡ fold (ahead V.Value.kind) (V.Value.kind.rest, 0)
         (counted V.Value.kind (as_heard heard.entry) heard.entry.setup.n) }
 {
@@ -31,8 +31,8 @@ fn foremost<V: Value>(heard: Heard) -> (V, usize)
         .fold((V::rest(), 0), ahead)
 }
 
-// The first of two values with their counts, unless the second beats it: a larger count, or an equal one and less. As a
-// comparison of pairs, of the count and the value turned round, it would be no plainer.
+// The first of two values with their counts, unless the second beats it: a larger count, or an equal one and less. By
+// `max` it would be no plainer: pairs of a count and a `Reverse` of the value, made and taken apart again.
 fn ahead<V: Value>(a: (V, usize), b: (V, usize)) -> (V, usize)
     ensures { result ≡ ahead V.Value.kind a b }
 {
@@ -57,13 +57,13 @@ fn majority<V: Value>(heard: Heard) -> Option<(V, usize)>
 }
 
 // The only word that may stand at more than half of the places: each other word is set off against one that differs
-// (Boyer and Moore).
+// (Boyer and Moore). The lead is 0 where no word is in front; an `Option` would only add a case. A loop and no `fold`,
+// since the lead is bounded by the places passed, of which a closure knows nothing.
 fn candidate(heard: Heard) -> u64
     ensures { OnlyCandidate (as_heard heard.entry) heard.entry.setup.n result }
 {
     let mut word = SILENT;
     let mut lead: usize = 0;
-    // over places and not over the row: the own place and those past the row's end are read otherwise
     for j in 0..heard.setup.n {
         let next = heard.at(j);
         if lead == 0 {

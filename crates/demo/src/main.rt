@@ -19,7 +19,7 @@ fn run(rt: &HostRuntime) -> anyhow::Result<()> {
         Scene::rounds()
     )?;
     let outcomes = scenes()?.map(Outcome::of);
-    for (number, outcome) in (1..=3).zip(&outcomes) {
+    for (number, outcome) in (1..=outcomes.len()).zip(&outcomes) {
         println!(rt; "\nvote {number}")?;
         outcome.show(rt)?;
     }

@@ -2,7 +2,7 @@ use crate::scene::ROUNDS;
 use std::fmt;
 
 /// What a round of the vote is for.
-#[derive(Clone, Copy, PartialEq, Eq, Debug)]
+#[derive(Clone, Copy)]
 pub(crate) enum Purpose {
     CountPoints,
     GradePoints,
@@ -12,7 +12,8 @@ pub(crate) enum Purpose {
     King(usize),
 }
 
-/// What each round of the vote is for, the first round first.
+/// What each round of the vote is for, the first round first. Not beside the words of the rounds, since it is the same
+/// for every scene.
 pub(crate) const PURPOSES: [Purpose; ROUNDS] = [
     Purpose::CountPoints,
     Purpose::GradePoints,

@@ -16,7 +16,8 @@ pub type Settling = TurpinCoan<Grading<Count<Point>>, PhaseKing<Grading<Count<Sw
 /// For how many rounds words are forged: as many as the vote takes.
 pub const ROUNDS: usize = 8;
 
-/// What the correct stations 1, 2 and 3 enter, and the words that the faulty station 0 sends each of them.
+/// What the correct stations 1, 2 and 3 enter, and the words that the faulty station 0 sends each of them: as they go
+/// over the wire, where the silent word is none.
 #[derive(Clone, Copy)]
 pub struct Scene {
     pub entries: [Point; 3],

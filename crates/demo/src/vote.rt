@@ -27,8 +27,8 @@ pub fn vote<V: Value, M: FullVote + Machine<Value = V>>(
     let [x, y, z] = *entries;
     let begin = |own, entry| M::begin(Setup { n: 4, t: 1, own }, entry);
     let (mut first, mut second, mut third) = (begin(1, x), begin(2, y), begin(3, z));
-    // by number, since a vote may take more rounds than words are forged for; each station by its name, since the
-    // promise is about three states
+    // by number, since a vote may take more rounds than words are forged for; an array of stations would be no plainer,
+    // since each hears a row of its own
     for k in 0..M::rounds(4, 1) {
         let [to_first, to_second, to_third] = sent_in(forged, k);
         let (a, b, c) = (first.say(), second.say(), third.say());

@@ -9,7 +9,7 @@ ghost use Rattle.phase_king.specs.PhaseKing.{phase_king, phase_begun, king_state
 mod phase;
 
 pub use phase::Phase;
-use protocol::{FullVote, GradedVote, MANY_ROUNDS, Machine, SILENT, Setup, Value};
+use protocol::{FullVote, GradedVote, Machine, SILENT, Setup, Value, saturated};
 
 /// Consensus over a graded vote: in each of t + 1 phases a graded vote, then a round in which the phase's king speaks.
 /// By the rules a machine keeps values as words.
@@ -48,9 +48,7 @@ fn phase_rounds(t: usize, graded: usize) -> usize
     ensures { result ≡ saturated ((t + 1) * (graded + 1)) }
 {
     let phases = t.saturating_add(1);
-    phases
-        .saturating_mul(graded.saturating_add(1))
-        .min(MANY_ROUNDS)
+    saturated(phases.saturating_mul(graded.saturating_add(1)))
 }
 
 impl<G: GradedVote> Machine for PhaseKing<G> {
@@ -74,6 +72,7 @@ impl<G: GradedVote> Machine for PhaseKing<G> {
         phase_rounds(t, G::rounds(n, t))
     }
 
+    // as every vote begins, but in states of its own: what they share is `refusal`
     fn begin(setup: Setup, value: G::Value) -> PhaseKing<G> {
         match Self::refusal(setup) {
             Some(_) => PhaseKing::Idle,

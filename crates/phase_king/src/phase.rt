@@ -3,7 +3,7 @@ ghost use Rattle.phase_king.specs.PhaseKing.{king_word, after_king, next_phase};
 
 use protocol::{Heard, SILENT, Setup, Value};
 
-/// One phase at a station: the station with this number is king.
+/// One phase as a station has it: its setup, and the number of the station that is king.
 #[derive(Clone, Copy)]
 pub struct Phase {
     pub setup: Setup,
@@ -22,8 +22,8 @@ impl Phase {
         }
     }
 
-    // The value after the king's round: the king's for who has grade 0, the own one for who has grade 1. Word and grade
-    // are the pair that a graded vote answers.
+    // The value after the king's round: with grade 0 the king's, with grade 1 the own one. Word and grade are the pair
+    // that a graded vote answers by the rules.
     pub(crate) fn after_king<V: Value>(self, word: u64, grade: bool, row: &[u64]) -> V
         ensures { result ≡ after_king V.Value.kind self word grade row.now }
     {

@@ -14,6 +14,6 @@ pub use admission::{exact_admission, lowest_admission};
 pub use machine::{FullVote, GradedVote, Machine, WeakVote};
 pub use refusal::Refusal;
 pub use runs::{runs_exist, stretches_are_runs};
-pub use setup::{Limits, MANY_ROUNDS, Setup};
+pub use setup::{Limits, MANY_ROUNDS, Setup, saturated};
 pub use value::{Value, lawful_kind};
 pub use word::{Heard, SILENT};

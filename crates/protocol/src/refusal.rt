@@ -26,7 +26,8 @@ impl Refusal {
     pub fn number(self) -> u8
         ensures { result ≡ number self }
     {
-        // no discriminants: two that are alike, which a must-fail edit tries, would be no program at all
+        // By the rules refusals are reported by number. Not discriminants: a must-fail edit makes two numbers alike,
+        // and such an enum would not compile.
         match self {
             Refusal::Stations => 1,
             Refusal::Faulty => 2,

@@ -1,10 +1,18 @@
 ghost use Rattle.std.specs.Prelude.{◌≡◌, ◌-◌};
 ghost use Rattle.protocol.specs.Admission.{refusal};
+ghost use Rattle.protocol.specs.Protocol.{saturated};
 
 use crate::refusal::Refusal;
 
-/// Numbers of rounds are kept up to this one, which by the rules stands for more too, and is refused.
+/// Numbers of rounds are kept up to this one, which by the rules stands for more too. A vote that takes so many is refused.
 pub const MANY_ROUNDS: usize = 65536;
+
+/// This many rounds, by the number that stands for more too.
+pub fn saturated(rounds: usize) -> usize
+    ensures { result ≡ saturated rounds }
+{
+    rounds.min(MANY_ROUNDS)
+}
 
 /// What a station knows of a vote before it begins.
 #[derive(Clone, Copy)]
@@ -26,7 +34,7 @@ pub struct Limits {
 }
 
 impl Setup {
-    /// How many places a value needs to be sure: as many stations are correct at least.
+    /// How many places make a value certain: at least so many stations are correct.
     pub fn quorum(self) -> usize
         ensures { result ≡ self.n - self.t }
     {

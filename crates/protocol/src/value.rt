@@ -6,7 +6,7 @@ ghost use Rattle.protocol.specs.Kind.{Kind, Lawful, value_of};
 pub trait Value: Copy + Ord {
     ghost kind: { Kind Self };
 
-    // `From` and `TryFrom` would be no plainer: the laws tie both ways to one kind, which is told once.
+    // `From` and `TryFrom` would be no plainer: each has a ghost member of its own for what `kind` says of both ways.
 
     /// The word that stands for this value.
     fn word(self) -> u64

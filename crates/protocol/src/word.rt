@@ -6,7 +6,7 @@ use crate::setup::Setup;
 /// The word that reads as no value of any kind. On the wire it is what `None` is in the program.
 pub const SILENT: u64 = u64::MAX;
 
-/// A row as a station reads it that said `said` in this round.
+/// A row as it is read by a station that said `said` in this round.
 #[derive(Clone, Copy)]
 pub struct Heard<'a> {
     pub setup: Setup,

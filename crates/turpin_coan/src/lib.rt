@@ -5,7 +5,7 @@
 ghost use Rattle.std.specs.Prelude.{◌≡◌};
 ghost use Rattle.turpin_coan.specs.TurpinCoan.{decided, turpin_coan, tc_state};
 
-use protocol::{FullVote, GradedVote, MANY_ROUNDS, Machine, SILENT, Setup, Value};
+use protocol::{FullVote, GradedVote, Machine, SILENT, Setup, Value, saturated};
 use values::Switch;
 
 /// Consensus on values of any kind: a graded vote on them, then a vote on the switch whether its value is taken. By the
@@ -18,7 +18,7 @@ pub enum TurpinCoan<G, B> {
     Answered { word: u64 },
 }
 
-// The word of the answer: the graded value's, or that of rest. A machine keeps values as words.
+// The graded value's word, or that of rest: by the rules a machine keeps its answer as a word.
 fn decided<V: Value>(word: u64, decision: Switch) -> u64
     ensures { result ≡ decided V.Value.kind word decision }
 {
@@ -46,10 +46,10 @@ impl<G: GradedVote, B: FullVote + Machine<Value = Switch>> Machine for TurpinCoa
     }
 
     fn rounds(n: usize, t: usize) -> usize {
-        (G::rounds(n, t) + B::rounds(n, t)).min(MANY_ROUNDS)
+        saturated(G::rounds(n, t) + B::rounds(n, t))
     }
 
-    // as every layer begins and answers, but with states of its own
+    // as every vote begins, but in states of its own: what they share is `refusal`
     fn begin(setup: Setup, value: G::Value) -> TurpinCoan<G, B> {
         match Self::refusal(setup) {
             Some(_) => TurpinCoan::Idle,
@@ -90,6 +90,7 @@ impl<G: GradedVote, B: FullVote + Machine<Value = Switch>> Machine for TurpinCoa
         }
     }
 
+    // as a phase king answers, but in a state of its own
     fn answer(&self) -> Option<G::Value> {
         match self {
             TurpinCoan::Answered { word } => Some(G::Value::read_or_rest(*word)),

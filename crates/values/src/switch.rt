@@ -11,7 +11,6 @@ pub enum Switch {
     Go,
 }
 
-// True is go.
 impl From<bool> for Switch {
     ghost from_gives = { λ go s. s ≡ switch_of go };
 

@@ -47,19 +47,15 @@ impl Point {
         Point { pressure, speed }
     }
 
-    // The speed without its sign.
-    fn size(self) -> u16
-        ensures { result ≡ unsigned_abs self.speed }
-    {
-        i16::unsigned_abs(self.speed)
-    }
-
     // What decides which of two points is less, the first first: the load, the pressure, the speed without its sign,
     // and at last the sign, the negative one being less.
     fn key(self) -> [u32; 4]
         ensures { result ≡ point_key self }
     {
-        let (pressure, size) = (u32::from(self.pressure), u32::from(self.size()));
+        let (pressure, size) = (
+            u32::from(self.pressure),
+            u32::from(i16::unsigned_abs(self.speed)),
+        );
         [pressure * size, pressure, size, u32::from(self.speed >= 0)]
     }
 }
@@ -99,6 +95,7 @@ impl Value for Point {
         u64::from(self.pressure) * 65536 + (self.speed as i32 + 6000) as u64
     }
 
+    // not by `new`: a must-fail edit lets this one read past a limit
     fn read(word: u64) -> Option<Point> {
         let pressure = word / 65536;
         let offset = word % 65536;
