@@ -24,7 +24,8 @@ module _ {V : Type 0} {P Q : Protocol V V} (same : SameVote P Q) where
       entry = R.entry;
       rows = R.rows;
       exact = λ i j k l m h c d e.
-          R.exact i j k l m (rw (same.rounds n t) at h) c d e ∙ sym (same.says (station n t j) (R.entry j) (R.rows j) k);
+          R.exact i j k l m (rw (same.rounds n t) at h) c d e ∙
+          sym (same.says (station n t j) (R.entry j) (R.rows j) k);
     }
 
     answers_alike : (i : ℕ) → answered run i ≡ answered R i

@@ -72,8 +72,8 @@ pub trait WeakVote: Machine<Answer = Option<<Self as Machine>::Value>> {
         ensures { WeakLaw Self.Machine.model };
 }
 
-/// A vote that answers a value together with its grade, 0 (false) or 1 (true). By the rules the answer is this pair: the
-/// value counts with either grade.
+/// A vote that answers a value together with its grade, 0 (false) or 1 (true). By the rules the answer is this pair, as
+/// the value counts with either grade.
 pub trait GradedVote: Machine<Answer = (<Self as Machine>::Value, bool)> {
     fn graded_law()
         ensures { GradedLaw Self.Machine.model };

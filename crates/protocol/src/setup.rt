@@ -4,7 +4,7 @@ ghost use Rattle.protocol.specs.Protocol.{saturated};
 
 use crate::refusal::Refusal;
 
-/// Numbers of rounds are kept up to this one, which by the rules stands for more too. A vote that takes so many is refused.
+/// Numbers of rounds are kept up to this one, which by the rules stands for more too. So many are refused.
 pub const MANY_ROUNDS: usize = 65536;
 
 /// This many rounds, by the number that stands for more too.

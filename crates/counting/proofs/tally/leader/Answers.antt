@@ -18,4 +18,5 @@ returns g c =
     let k = g.V.Value.kind in
     let row = as_heard c.args.heard in
     let n = c.args.heard.setup.n in
-    leader_is k g.met.V.Value.lawful row n c.leader_by_counting.result (c.leader_by_counting.ensures ∙ leader_fold k row n)
+    leader_is k g.met.V.Value.lawful row n c.leader_by_counting.result
+    (c.leader_by_counting.ensures ∙ leader_fold k row n)
