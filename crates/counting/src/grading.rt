@@ -32,6 +32,7 @@ impl<W: WeakVote> Machine for Grading<W> {
 
     ghost state = { grading_state W.Machine.state };
 
+    // the limits of the vote below, as in every layer: `Machine` knows of no vote below that it could ask
     fn max_stations() -> usize {
         W::max_stations()
     }

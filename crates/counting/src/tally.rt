@@ -6,6 +6,8 @@ ghost use Rattle.counting.specs.Majority.{OnlyCandidate, Majority};
 
 use protocol::{Heard, SILENT, Value};
 
+// Each clause names the row as heard and its places: a model of `Heard` would have to be data, and this is a function.
+
 /// The value that most places read as, the least one on equal counts, with their number. By the rules a pair, rest with
 /// 0 where no place reads as a value.
 pub fn leader<V: Value>(heard: Heard) -> (V, usize)

@@ -4,7 +4,8 @@ use crate::told::Told;
 use std::{fmt, io};
 use values::Point;
 
-/// A vote that was run: its scene, and what the correct stations 1, 2 and 3 answered.
+/// A vote that was run: its scene, and what the correct stations 1, 2 and 3 answered. Entries and answers are an array
+/// each, as the vote takes and gives them.
 #[derive(Clone, Copy)]
 pub(crate) struct Outcome {
     scene: Scene,

@@ -60,6 +60,7 @@ impl<G: GradedVote> Machine for PhaseKing<G> {
 
     ghost state = { king_state G.Machine.state };
 
+    // the limits of the vote below, as in every layer: `Machine` knows of no vote below that it could ask
     fn max_stations() -> usize {
         G::max_stations()
     }

@@ -69,6 +69,7 @@ impl<F: FullVote, A: Form<F::Value>> Machine for StepDown<F, A> {
 
     ghost state = { λ m. F.Machine.state m.full };
 
+    // the limits of the vote below, as in every layer: `Machine` knows of no vote below that it could ask
     fn max_stations() -> usize {
         F::max_stations()
     }
