@@ -1,10 +1,22 @@
-// Faulty stations as the tests of whole runs have them: who they are, and what they send to whom.
+// What the tests of whole runs share: the stations, which of them are faulty, and what these send to whom.
 
 #[cfg(test)]
 pub mod tests {
-    use protocol::SILENT;
+    use protocol::{SILENT, Setup};
     use std::alloc::{AllocError, Global};
     use std::iter;
+
+    // A station of four, of which one may be faulty.
+    pub fn of_four(own: usize) -> Setup {
+        Setup { n: 4, t: 1, own }
+    }
+
+    // Which of two values a station enters.
+    #[derive(Clone, Copy, PartialEq, Eq)]
+    pub enum Side {
+        First,
+        Second,
+    }
 
     // Which stations are faulty: the first ones are kings.
     #[derive(Clone, Copy)]
@@ -47,7 +59,7 @@ pub mod tests {
     pub struct Case {
         pub n: usize,
         pub t: usize,
-        pub many: usize,
+        many: usize,
         faulty: usize,
         who: Who,
         style: Style,
@@ -123,24 +135,31 @@ pub mod tests {
             heard.collect(alloc)
         }
 
-        // Whether all correct stations enter the second value, or all the first one.
-        pub fn unanimous(self) -> Option<bool> {
-            let mut second = (0..self.n)
+        pub fn side(self, j: usize) -> Side {
+            if j < self.many {
+                Side::Second
+            } else {
+                Side::First
+            }
+        }
+
+        // The side that all correct stations are on, if it is one.
+        pub fn unanimous(self) -> Option<Side> {
+            let mut sides = (0..self.n)
                 .filter(|j| !self.is_faulty(*j))
-                .map(|j| j < self.many);
-            let common = second.next()?;
-            second.all(|x| x == common).then_some(common)
+                .map(|j| self.side(j));
+            let common = sides.next()?;
+            sides.all(|side| side == common).then_some(common)
         }
     }
 
     // One of the words, by a mixture of the numbers.
     fn garbled(words: [u64; 4], seed: u64, numbers: [usize; 3]) -> u64 {
-        let mut mixed = seed;
-        for x in numbers {
-            mixed = (mixed ^ (x as u64))
+        let mixed = numbers.iter().fold(seed, |mixed, x| {
+            (mixed ^ (*x as u64))
                 .wrapping_mul(6364136223846793005)
-                .rotate_left(23);
-        }
+                .rotate_left(23)
+        });
         words[(mixed % 4) as usize]
     }
 }

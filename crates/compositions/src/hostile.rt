@@ -2,7 +2,7 @@
 
 #[cfg(test)]
 mod tests {
-    use crate::adversary::tests::{Case, Round};
+    use crate::adversary::tests::{Case, Round, Side};
     use crate::{King, Multivalued};
     use counting::{Count, Grading};
     use phase_king::PhaseKing;
@@ -29,8 +29,11 @@ mod tests {
     };
 
     impl<V: Value> Sides<V> {
-        fn value(self, second: bool) -> V {
-            if second { self.second } else { self.first }
+        fn value(self, side: Side) -> V {
+            match side {
+                Side::First => self.first,
+                Side::Second => self.second,
+            }
         }
 
         fn round(self, number: usize) -> Round {
@@ -41,21 +44,26 @@ mod tests {
             };
             Round { number, words }
         }
+    }
 
-        // The word that all correct stations enter.
-        fn entered(self, case: Case) -> Option<u64> {
-            Some(self.value(case.unanimous()?).word())
+    // A run, and the values of its two sides.
+    #[derive(Clone, Copy)]
+    struct Trial<V> {
+        case: Case,
+        sides: Sides<V>,
+    }
+
+    impl<V: Value> Trial<V> {
+        // The value that all correct stations enter.
+        fn entered(self) -> Option<V> {
+            Some(self.sides.value(self.case.unanimous()?))
         }
 
         // The machines of all stations, before the first round.
-        fn begun<M: Machine<Value = V>>(
-            self,
-            alloc: Global,
-            case: Case,
-        ) -> Result<Vec<M>, AllocError> {
-            let Case { n, t, many, .. } = case;
+        fn begun<M: Machine<Value = V>>(self, alloc: Global) -> Result<Vec<M>, AllocError> {
+            let Case { n, t, .. } = self.case;
             let machines = (0..n).map(|own| {
-                let value = self.value(own < many);
+                let value = self.sides.value(self.case.side(own));
                 M::begin(Setup { n, t, own }, value)
             });
             machines.collect(alloc)
@@ -65,12 +73,12 @@ mod tests {
         fn answers<M: Machine<Value = V>>(
             self,
             alloc: Global,
-            case: Case,
         ) -> Result<Vec<Option<M::Answer>>, AllocError> {
-            let mut machines = self.begun::<M>(alloc, case)?;
+            let Trial { case, sides } = self;
+            let mut machines = self.begun::<M>(alloc)?;
             // by number: what is in play and what is forged depends on it
             for number in 0..M::rounds(case.n, case.t) {
-                run_round(alloc, &mut machines, case, self.round(number))?;
+                run_round(alloc, &mut machines, case, sides.round(number))?;
             }
             let stations = machines.iter().enumerate();
             stations
@@ -95,27 +103,28 @@ mod tests {
     }
 
     // All correct stations answer one value, and that which all of them entered.
-    fn keeps_full_law<V: Value>(entered: Option<u64>, answers: &[Option<V>]) -> bool {
+    fn keeps_full_law<V: Value>(entered: Option<V>, answers: &[Option<V>]) -> bool {
         let answered = answers.iter().flatten().next();
-        let common = entered.or(answered.map(|value| value.word()));
-        answers.iter().all(|answer| answer.is_some_and(|value| common == Some(value.word())))
+        let common = entered.or(answered.copied());
+        answers
+            .iter()
+            .all(|answer| answer.is_some_and(|value| common == Some(value)))
     }
 
     // What a correct station answers with grade 1 all correct ones answer, and with grade 1 if all of them entered it.
-    fn keeps_graded_law<V: Value>(entered: Option<u64>, answers: &[Option<(V, bool)>]) -> bool {
+    fn keeps_graded_law<V: Value>(entered: Option<V>, answers: &[Option<(V, bool)>]) -> bool {
         let graded_one = answers.iter().flatten().find(|(_, grade)| *grade);
-        let sure = entered.or(graded_one.map(|(value, _)| value.word()));
+        let sure = entered.or(graded_one.map(|(value, _)| *value));
         answers.iter().all(|answer| {
             answer.is_some_and(|(value, grade)| {
-                let word = value.word();
-                sure.unwrap_or(word) == word && (grade || entered.is_none())
+                sure.unwrap_or(value) == value && (grade || entered.is_none())
             })
         })
     }
 
-    // Whether all cases of so many stations, with some faulty ones too many, keep a law, which is given the word that
-    // all correct stations entered and what each of them answered.
-    fn all_keep<M: Machine, F: Fn(Option<u64>, &[Option<M::Answer>]) -> bool>(
+    // Whether all cases of so many stations, with `extra` more faulty than may be, keep a law, which is given the value
+    // that all correct stations entered and what each of them answered.
+    fn all_keep<M: Machine, F: Fn(Option<M::Value>, &[Option<M::Answer>]) -> bool>(
         alloc: Global,
         sizes: &[usize],
         extra: usize,
@@ -126,8 +135,9 @@ mod tests {
     {
         for n in sizes {
             for case in Case::all(alloc, *n, extra)? {
-                let answers = sides.answers::<M>(alloc, case)?;
-                if !law(sides.entered(case), &answers) {
+                let trial = Trial { case, sides };
+                let answers = trial.answers::<M>(alloc)?;
+                if !law(trial.entered(), &answers) {
                     return Ok(false);
                 }
             }

@@ -2,6 +2,7 @@
 
 #[cfg(test)]
 mod tests {
+    use crate::adversary::tests::of_four;
     use crate::{King, Multivalued, ThreeKings};
     use counting::{Count, Grading};
     use phase_king::PhaseKing;
@@ -93,7 +94,7 @@ mod tests {
 
     #[test]
     fn answers_come_with_the_last_round(rt: HostRuntime) {
-        let four = Setup { n: 4, t: 1, own: 2 };
+        let four = of_four(2);
         assert!(rt; ends_after::<Count<Switch>>(four, 1));
         assert!(rt; ends_after::<Grading<Count<Switch>>>(four, 2));
         assert!(rt; ends_after::<King<Switch>>(four, 6));
@@ -104,7 +105,7 @@ mod tests {
 
     #[test]
     fn nothing_changes_after_the_answer(rt: HostRuntime) {
-        let mut machine = King::<Switch>::begin(Setup { n: 4, t: 1, own: 0 }, Switch::Hold);
+        let mut machine = King::<Switch>::begin(of_four(0), Switch::Hold);
         for _ in 0..6 {
             machine.hear(&[0, 0, 0, 1]);
         }
@@ -145,7 +146,7 @@ mod tests {
     #[test]
     fn a_point_is_said_by_its_word(rt: HostRuntime) -> Result<(), Fail> {
         let point = Point::new(2500, 1500)?;
-        let machine = Count::<Point>::begin(Setup { n: 4, t: 1, own: 2 }, point);
+        let machine = Count::<Point>::begin(of_four(2), point);
         assert_eq!(rt; machine.say(), 163847500);
         assert_eq!(rt; Point::rest().word(), 6000);
         Ok(())

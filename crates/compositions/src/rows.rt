@@ -2,6 +2,7 @@
 
 #[cfg(test)]
 mod tests {
+    use crate::adversary::tests::of_four;
     use counting::{Count, leader};
     use protocol::{Heard, Machine, SILENT, Setup, Value};
     use std::test::Fail;
@@ -9,7 +10,7 @@ mod tests {
 
     // What station `own` of four, of which one may be faulty, answers to a row.
     fn counted(own: usize, entry: Switch, row: &[u64]) -> Option<Option<Switch>> {
-        let mut machine = Count::<Switch>::begin(Setup { n: 4, t: 1, own }, entry);
+        let mut machine = Count::<Switch>::begin(of_four(own), entry);
         machine.hear(row);
         machine.answer()
     }
@@ -72,7 +73,7 @@ mod tests {
 
     #[test]
     fn ties_go_to_the_least(rt: HostRuntime) -> Result<(), Fail> {
-        let setup = Setup { n: 4, t: 1, own: 0 };
+        let setup = of_four(0);
         let led = |said: u64, row: &[u64]| leader::<Switch>(Heard { setup, said, row });
         assert_eq!(rt; led(1, &[1, 0, SILENT, SILENT]), (Switch::Hold, 1));
         assert_eq!(rt; led(1, &[1, 0, 0, 1]), (Switch::Hold, 2));

@@ -2,6 +2,7 @@
 
 #[cfg(test)]
 mod tests {
+    use crate::adversary::tests::of_four;
     use counting::Count;
     use protocol::{Machine, SILENT, Setup, Value};
     use std::test::Fail;
@@ -13,7 +14,7 @@ mod tests {
     const WORDS: [u64; 4] = [0, 1, 2, SILENT];
 
     fn begun(own: usize, entry: Switch) -> Count<Switch> {
-        Count::begin(Setup { n: 4, t: 1, own }, entry)
+        Count::begin(of_four(own), entry)
     }
 
     // What the three correct stations of four answer where the faulty one, station 3, tells each of them another word.
@@ -26,7 +27,7 @@ mod tests {
         stations.map(|station| station.answer())
     }
 
-    // Each has answered, a value or none, and two values are the same.
+    // Each has answered, a value or none, and any two values are the same.
     fn consistent(answers: &[Option<Option<Switch>>]) -> bool {
         let some_hold = answers.contains(&Some(Some(Switch::Hold)));
         let some_go = answers.contains(&Some(Some(Switch::Go)));

@@ -2,9 +2,10 @@
 
 #[cfg(test)]
 mod tests {
+    use crate::adversary::tests::of_four;
     use crate::{King, Multivalued};
     use counting::{Count, Grading};
-    use protocol::{Machine, SILENT, Setup, Value};
+    use protocol::{Machine, SILENT, Value};
     use std::test::Fail;
     use values::{Point, Switch};
 
@@ -20,8 +21,7 @@ mod tests {
     impl<V: Value> Station<V> {
         // Its machine, once it has heard some rows.
         fn after<M: Machine<Value = V>>(self, rows: &[[u64; 4]]) -> M {
-            let Station { own, entry } = self;
-            let mut machine = M::begin(Setup { n: 4, t: 1, own }, entry);
+            let mut machine = M::begin(of_four(self.own), self.entry);
             for row in rows {
                 machine.hear(row);
             }
@@ -155,9 +155,9 @@ mod tests {
         );
         assert_eq!(rt; second_holds.says(&[rows[0], rows[1]]), MUTE);
         assert_eq!(rt; first.says(&rows), 1, "and hears its own place from itself");
-        let phase = [rows[0], rows[1], rows[2], rows[0], rows[1]];
-        assert_eq!(rt; second.says(&phase), 1, "station 1 the second");
-        assert_eq!(rt; first.says(&phase), MUTE);
+        let five_rows = [rows[0], rows[1], rows[2], rows[0], rows[1]];
+        assert_eq!(rt; second.says(&five_rows), 1, "station 1 the second");
+        assert_eq!(rt; first.says(&five_rows), MUTE);
     }
 
     #[test]
