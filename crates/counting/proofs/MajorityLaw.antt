@@ -1,5 +1,5 @@
 -- A majority leads, and one pass finds the only word that can have it.
-use Rattle.std.proofs.Common.{◌≡◌, ℕ, ◌+◌, ◌-◌, ◌*◌, ◌<◌, ◌≤◌, Some, sym, refl, ap, ◌∙◌, inl, ⊎_elim, arith}
+use Rattle.std.proofs.Common.{◌≡◌, ℕ, ◌+◌, ◌*◌, ◌<◌, ◌≤◌, Some, refl, ap, ◌∙◌, inl, ⊎_elim, arith}
 use Rattle.std.proofs.lemmas.Bool.{cases_eq}
 use Rattle.protocol.specs.Kind.{Kind, Lawful}
 use Rattle.protocol.specs.Places.{places}
@@ -8,7 +8,6 @@ use Rattle.protocol.proofs.PlacesLaw.{place_of, rivals}
 use Rattle.counting.specs.Leader.{leader, Leads}
 use Rattle.counting.specs.Majority.{OnlyCandidate}
 use Rattle.counting.proofs.LeaderLaw.{leader_leads, leads_only}
-use Rattle.counting.proofs.PassLaw.{place_matches, place_differs}
 
 module _ {V : Type 0} (K : Kind V) (lawful : Lawful K) (row : ℕ → ℕ) (n : ℕ) where
   -- a value with more places than any other leads
@@ -47,37 +46,6 @@ pub record Lead (row : ℕ → ℕ) (j word lead : ℕ) : Type 0 where
   pub within : lead ≤ j
   pub here : 2 * places row word j ≤ j + lead
   pub others : (w : ℕ) → (w ≡ word → ⊥) → 2 * places row w j + lead ≤ j
-
-module _ (row : ℕ → ℕ) (j word lead : ℕ) (h : Lead row j word lead) where
-  half : lead ≡ 0 → (w : ℕ) → 2 * places row w j ≤ j
-  half z w = ⊎_elim
-      (λ (e : w ≡ word). let g = h.here in rw e (omega arith))
-      (λ d. let g = h.others w d in omega arith)
-      (cases_eq w word)
-
-  pub new_lead : lead ≡ 0 → Lead row (j + 1) (row j) 1
-  new_lead z = record {
-    within = omega arith;
-    here = let m = place_matches row (row j) j refl in let g = half z (row j) in omega arith;
-    others = λ w d. let m = place_differs row w j (λ e. d (sym e)) in let g = half z w in omega arith;
-  }
-
-  pub more_lead : row j ≡ word → Lead row (j + 1) word (lead + 1)
-  more_lead e = record {
-    within = let l = h.within in omega arith;
-    here = let m = place_matches row word j e in let g = h.here in omega arith;
-    others = λ w d. let m = place_differs row w j (λ f. d (sym f ∙ e)) in let g = h.others w d in omega arith;
-  }
-
-  pub less_lead : (lead ≡ 0 → ⊥) → (row j ≡ word → ⊥) → Lead row (j + 1) word (lead - 1)
-  less_lead z d = record {
-    within = let l = h.within in omega arith;
-    here = let m = place_differs row word j d in let g = h.here in omega arith;
-    others = λ w f. ⊎_elim
-        (λ (e : row j ≡ w). let m = place_matches row w j e in let g = h.others w f in omega arith)
-        (λ e. let m = place_differs row w j e in let g = h.others w f in omega arith)
-        (cases_eq (row j) w);
-  }
 
 pub only_candidate : (row : ℕ → ℕ) (n word lead : ℕ) → Lead row n word lead → OnlyCandidate row n word
 only_candidate row n word lead h u m = ⊎_elim

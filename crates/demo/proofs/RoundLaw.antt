@@ -1,5 +1,4 @@
--- The rounds of the vote of four stations, one after the other. Where `vote` needs the two theorems the checker finds
--- them by itself; they stand here for a reader.
+-- The rounds of the vote of four stations, one after the other.
 use Rattle.std.proofs.Common.{◌≡◌, ℕ, ◌+◌, ◌-◌, List, [], ◌∷◌, get_or, Option, sym, refl, ap, ◌∙◌, add-one}
 use Rattle.protocol.specs.Kind.{Kind}
 use Rattle.protocol.specs.Protocol.{Protocol}
