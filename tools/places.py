@@ -12,7 +12,7 @@ import sys
 from collections import defaultdict
 
 SEARCHES = [
-    ("1 enums (of the shape of Option or Result?)", r"^\s*(pub )?enum "),
+    ("1 enums (of the shape of Option or Result?)", r"^\s*(pub(\(\w+\))? )?enum "),
     ("1 flags", r"\bbool\)|\w+: bool\b"),
     ("1 numbers for kinds, to or from", r"^\s*\d+( \| \d+)* => |=> \d+,$"),
     ("1 words and numbers that may stand for none or for more",

@@ -1,4 +1,4 @@
-// What the tests of whole runs share: the stations, which of them are faulty, and what these send to whom.
+// What the tests share: the stations, which of them are faulty, and what these send to whom.
 
 #[cfg(test)]
 pub mod tests {
@@ -67,7 +67,7 @@ pub mod tests {
 
     impl Case {
         // As many faulty stations as may be, and some extra ones. Every set of them meets every style, with no, half
-        // and all stations on one side, and at the quorum's edge.
+        // and all stations on one side, and at the quorum's edge. What allocates is handed the allocator.
         pub fn all(alloc: Global, n: usize, extra: usize) -> Result<Vec<Case>, AllocError> {
             let t = n.saturating_sub(1) / 3;
             let faulty = t.saturating_add(extra);

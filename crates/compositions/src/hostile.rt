@@ -14,7 +14,7 @@ mod tests {
 
     const SIZES: [usize; 4] = [4, 7, 10, 64];
 
-    // The two values that are entered. From a round on the words in play are those of the switch.
+    // The two values that are entered. From round `until` on the words in play are those of the switch.
     #[derive(Clone, Copy)]
     struct Sides<V> {
         first: V,
@@ -88,7 +88,7 @@ mod tests {
         }
     }
 
-    // Each station says its word and hears its row. What allocates is handed the allocator, here as above.
+    // Each station says its word and hears its row.
     fn run_round<M: Machine>(
         alloc: Global,
         machines: &mut [M],
@@ -200,7 +200,8 @@ mod tests {
         Ok(())
     }
 
-    // Grading of a vote that steps down to a weak one, under a phase king.
+    // Grading of a vote that steps down to a weak one, under a phase king. Generic, since so deep a type takes minutes to
+    // check where it is written out.
     fn layered_keep<M: FullVote>(
         alloc: Global,
         sides: Sides<M::Value>,

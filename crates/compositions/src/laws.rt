@@ -27,7 +27,7 @@ pub fn compositions_keep_their_laws<V: Value>()
     lawful_kind::<Switch>();
 }
 
-/// A type of vote that is a composition of this name: they cannot be told apart.
+/// A type of vote that stands for a composition: the two cannot be told apart.
 pub trait NamedComposition: FullVote {
     ghost composition: { Composition Given Full };
 
@@ -52,7 +52,7 @@ impl<V: Value> NamedComposition for Multivalued<V> {
     ghost same = { itself _ };
 }
 
-/// Each such type is its composition, whose law it keeps.
+/// Such a type cannot be told apart from its composition, and so the composition keeps its full law.
 pub fn named_law<M: NamedComposition>()
     ensures same { SameVote M.Machine.model (protocol M.Value.kind M.NamedComposition.composition) }
     ensures law { FullLaw (protocol M.Value.kind M.NamedComposition.composition) }

@@ -120,7 +120,8 @@ mod tests {
         (M::rounds(64, 21), M::refusal(LARGEST))
     }
 
-    // The same of a vote, and of the vote with one more phase king above.
+    // The same of a vote, and of the vote with one more phase king above: generic, since types this deep take minutes
+    // to check where they are written out.
     fn with_a_king_above<M: FullVote>() -> [(usize, Option<Refusal>); 2] {
         [of_64::<M>(), of_64::<PhaseKing<AsGraded<M>>>()]
     }

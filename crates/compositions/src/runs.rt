@@ -17,7 +17,8 @@ mod tests {
         Count::begin(of_four(own), entry)
     }
 
-    // What the three correct stations of four answer where the faulty one, station 3, tells each of them another word.
+    // What the three correct stations of four answer where the faulty one, station 3, tells each of them a word of its
+    // own.
     fn answers([x, y, z]: [Switch; 3], forged: [u64; 3]) -> [Option<Option<Switch>>; 3] {
         let mut stations = [begun(0, x), begun(1, y), begun(2, z)];
         let [a, b, c] = stations.map(|station| station.say());

@@ -30,7 +30,7 @@ mod tests {
     }
 
     impl Station<Switch> {
-        // What it answers that grades a counting vote.
+        // What it answers when it grades a counting vote.
         fn graded(self, rows: &[[u64; 4]]) -> Option<(Switch, bool)> {
             self.after::<Grading<Count<Switch>>>(rows).answer()
         }

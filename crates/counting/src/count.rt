@@ -5,7 +5,8 @@ use crate::tally::leader;
 use protocol::{Heard, Machine, SILENT, Setup, Value, WeakVote};
 use std::marker::PhantomData;
 
-/// Where a station stands in the counting vote. By the rules a machine keeps values as words, and no value as silence.
+/// Where a station stands in the counting vote. By the rules a machine keeps values as words, and none as the silent
+/// word.
 #[derive(Clone, Copy)]
 pub enum CountState {
     Idle,

@@ -7,7 +7,7 @@ use crate::tally::leader;
 use protocol::{GradedVote, Heard, Machine, SILENT, Setup, Value, WeakVote, saturated};
 
 /// Graded consensus over a weak vote: its answers are told and counted in one round more. By the rules a machine keeps
-/// values as words and no value as silence, and a graded answer is a pair of value and grade.
+/// values as words and none as the silent word, and a graded answer is a pair of value and grade.
 #[derive(Clone, Copy)]
 pub enum Grading<W> {
     Idle,
@@ -16,7 +16,7 @@ pub enum Grading<W> {
     Answered { word: u64, grade: bool },
 }
 
-// The word by which an answer of the weak vote is told; by the rules silence tells of none.
+// The word by which an answer of the weak vote is told: by the rules the silent word if it was none.
 fn told<V: Value>(answer: Option<V>) -> u64
     ensures { result ≡ word_of V.Value.kind answer }
 {

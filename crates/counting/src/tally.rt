@@ -6,7 +6,8 @@ ghost use Rattle.counting.specs.Majority.{OnlyCandidate, Majority};
 
 use protocol::{Heard, SILENT, Value};
 
-// Each clause names the row as heard and its places: a model of `Heard` would have to be data, and this is a function.
+// Each clause names the row as heard and its places: the value of a ghost model has to be data, and a row as it is read
+// is a function of the place.
 
 /// The value that most places read as, the least one on equal counts, with their number. By the rules a pair, rest with
 /// 0 where no place reads as a value.
@@ -59,8 +60,8 @@ fn majority<V: Value>(heard: Heard) -> Option<(V, usize)>
 }
 
 // The only word that may stand at more than half of the places: each other word is set off against one that differs
-// (Boyer and Moore). The lead is 0 where no word is in front; an `Option` would only add a case. A loop and no `fold`,
-// since the lead is bounded by the places passed, of which a closure knows nothing.
+// (Boyer and Moore). The lead is 0 where no word is in front; an `Option` would only add a case. Tried as a `fold`: the
+// proof did not close, since a closure has no invariant that would bound the lead.
 fn candidate(heard: Heard) -> u64
     ensures { OnlyCandidate (as_heard heard.entry) heard.entry.setup.n result }
 {

@@ -10,7 +10,7 @@ use protocol::Machine;
 use turpin_coan::TurpinCoan;
 use values::{Point, Switch};
 
-/// An operating point by Turpin-Coan, whether it is taken by a phase king on the switch.
+/// An operating point by Turpin-Coan; whether it is taken is decided by a phase king on the switch.
 pub type Settling = TurpinCoan<Grading<Count<Point>>, PhaseKing<Grading<Count<Switch>>>>;
 
 /// For how many rounds words are forged: as many as the vote takes.

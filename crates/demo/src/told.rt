@@ -3,7 +3,7 @@ use protocol::{SILENT, Value};
 use std::fmt;
 use values::{Point, Switch};
 
-/// What a word says to its listener, in a round that is for this purpose.
+/// What a word says to its listener, in a round that is for this purpose. On the wire the silent word is none.
 #[derive(Clone, Copy)]
 pub(crate) struct Told {
     pub(crate) purpose: Purpose,

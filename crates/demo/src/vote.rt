@@ -4,7 +4,7 @@ ghost use Rattle.demo.specs.Promise.{sent_in, answers_to, Promise};
 
 use protocol::{FullVote, Machine, SILENT, Setup, Value, runs_exist};
 
-// The words that the faulty station sends in a round.
+// The words that the faulty station sends in a round, as they go over the wire: the silent word is none.
 fn sent_in(forged: &[[u64; 3]], round: usize) -> [u64; 3]
     ensures { result ≡ sent_in forged.now round }
 {
@@ -27,8 +27,8 @@ pub fn vote<V: Value, M: FullVote + Machine<Value = V>>(
     let [x, y, z] = *entries;
     let begin = |own, entry| M::begin(Setup { n: 4, t: 1, own }, entry);
     let (mut first, mut second, mut third) = (begin(1, x), begin(2, y), begin(3, z));
-    // by number, since a vote may take more rounds than words are forged for; an array of stations would be no plainer,
-    // since each hears a row of its own
+    // By number, as the contract speaks of rounds. Tried with an array of stations: the proof did not close, since
+    // `iter_mut` asks that three machines fit in memory, and the size of a machine of any type has no bound.
     for k in 0..M::rounds(4, 1) {
         let [to_first, to_second, to_third] = sent_in(forged, k);
         let (a, b, c) = (first.say(), second.say(), third.say());

@@ -22,7 +22,7 @@ pub enum PhaseKing<G> {
     },
     KingRound {
         phase: Phase,
-        // a graded answer is a pair of value and grade, and a machine keeps a value as its word
+        // by the rules a graded answer is a pair of value and grade
         word: u64,
         grade: bool,
     },

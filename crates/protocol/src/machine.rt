@@ -43,7 +43,7 @@ pub trait Machine: Copy {
         })
     }
 
-    /// A machine before its first round, or an idle one where the setup is refused.
+    /// A machine before its first round. Where the setup is refused it is idle, by the rules, and no `Err`.
     fn begin(setup: Setup, value: Self::Value) -> Self
         ensures { state result ≡ model.begun setup value };
 

@@ -4,10 +4,10 @@ ghost use Rattle.protocol.specs.Protocol.{saturated};
 
 use crate::refusal::Refusal;
 
-/// Numbers of rounds are kept up to this one, which by the rules stands for more too. So many are refused.
+/// Round counts are cut to this one, which by the rules stands for more too. A vote that takes so many is refused.
 pub const MANY_ROUNDS: usize = 65536;
 
-/// This many rounds, by the number that stands for more too.
+/// This many rounds, or 65,536 if there are more.
 pub fn saturated(rounds: usize) -> usize
     ensures { result ≡ saturated rounds }
 {

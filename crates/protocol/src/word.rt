@@ -3,7 +3,7 @@ ghost use Rattle.protocol.specs.Heard.{as_heard};
 
 use crate::setup::Setup;
 
-/// The word that reads as no value of any kind. On the wire it is what `None` is in the program.
+/// The word that reads as no value of any kind: by the rules it is on the wire what `None` is in the program.
 pub const SILENT: u64 = u64::MAX;
 
 /// A row as it is read by a station that said `said` in this round.
@@ -15,7 +15,7 @@ pub struct Heard<'a> {
 }
 
 impl Heard<'_> {
-    /// The word at place `j`: at the own place what was said, past the row's end silence.
+    /// The word at place `j`: at the own place what was said; by the rules silent words follow a row that is too short.
     pub fn at(self, j: usize) -> u64
         ensures { result ≡ as_heard self.entry j }
     {

@@ -37,7 +37,7 @@ impl<V: Copy> Form<V> for Weak {
 }
 
 impl<V: Copy> Form<V> for Graded {
-    // a graded answer is a pair of value and grade
+    // by the rules a graded answer is a pair of value and grade
     type Answer = (V, bool);
 
     ghost form = { graded_form };

@@ -47,8 +47,8 @@ impl Point {
         Point { pressure, speed }
     }
 
-    // What decides which of two points is less, the first first: the load, the pressure, the speed without its sign,
-    // and at last the sign, the negative one being less.
+    // What decides which of two points is less, in this order: the load, the pressure, the speed without its sign, and
+    // at last the sign, the negative one being less.
     fn key(self) -> [u32; 4]
         ensures { result ≡ point_key self }
     {
