@@ -200,8 +200,8 @@ mod tests {
         Ok(())
     }
 
-    // Grading of a vote that steps down to a weak one, under a phase king. Generic, since so deep a type takes minutes to
-    // check where it is written out.
+    // Grading of a vote that steps down to a weak one, under a phase king. Generic, since so deep a type takes minutes
+    // to check where it is written out.
     fn layered_keep<M: FullVote>(
         alloc: Global,
         sides: Sides<M::Value>,
