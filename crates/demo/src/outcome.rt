@@ -1,3 +1,6 @@
+ghost use Rattle.std.specs.Prelude.{◌≡◌};
+ghost use Rattle.demo.specs.Settling.{settled_in};
+
 use crate::purpose::PURPOSES;
 use crate::scene::{ROUNDS, Scene};
 use crate::told::Told;
@@ -14,7 +17,10 @@ pub(crate) struct Outcome {
 
 impl Outcome {
     /// The outcome of a scene's vote.
-    pub(crate) fn of(scene: Scene) -> Self {
+    pub(crate) fn of(scene: Scene) -> Self
+        ensures scene { result.scene ≡ scene }
+        ensures answers { result.answers ≡ settled_in scene }
+    {
         Outcome {
             scene,
             answers: scene.vote(),
