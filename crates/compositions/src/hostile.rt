@@ -103,7 +103,7 @@ mod tests {
     }
 
     // All correct stations answer one value, and that which all of them entered.
-    fn keeps_full_law<V: Value>(entered: Option<V>, answers: &[Option<V>]) -> bool {
+    fn keeps_full_law<V: Copy + PartialEq>(entered: Option<V>, answers: &[Option<V>]) -> bool {
         let answered = answers.iter().flatten().next();
         let common = entered.or(answered.copied());
         answers
@@ -112,7 +112,10 @@ mod tests {
     }
 
     // What a correct station answers with grade 1 all correct ones answer, and with grade 1 if all of them entered it.
-    fn keeps_graded_law<V: Value>(entered: Option<V>, answers: &[Option<(V, bool)>]) -> bool {
+    fn keeps_graded_law<V: Copy + PartialEq>(
+        entered: Option<V>,
+        answers: &[Option<(V, bool)>],
+    ) -> bool {
         let graded_one = answers.iter().flatten().find(|(_, grade)| *grade);
         let sure = entered.or(graded_one.map(|(value, _)| *value));
         answers.iter().all(|answer| {
@@ -202,16 +205,16 @@ mod tests {
 
     // Grading of a vote that steps down to a weak one, under a phase king. Generic, since so deep a type takes minutes
     // to check where it is written out.
-    fn layered_keep<M: FullVote>(
+    fn layered_keep<V: Value + PartialEq, M: FullVote + Machine<Value = V>>(
         alloc: Global,
-        sides: Sides<M::Value>,
+        sides: Sides<V>,
     ) -> Result<bool, AllocError> {
         all_keep::<PhaseKing<Grading<AsWeak<M>>>, _>(alloc, &SIZES, 0, sides, keeps_full_law)
     }
 
     #[test]
     fn layers_on_layers_keep_their_law(rt: HostRuntime) -> Result<(), AllocError> {
-        assert!(rt; layered_keep::<King<Switch>>(rt.alloc(), SWITCHES)?);
+        assert!(rt; layered_keep::<_, King<Switch>>(rt.alloc(), SWITCHES)?);
         Ok(())
     }
 }

@@ -15,5 +15,5 @@ pub use machine::{FullVote, GradedVote, Machine, WeakVote};
 pub use refusal::Refusal;
 pub use runs::{runs_exist, stretches_are_runs};
 pub use setup::{Limits, MANY_ROUNDS, Setup, saturated};
-pub use value::{Value, lawful_kind};
+pub use value::{OrderedValue, Value, lawful_kind};
 pub use word::{Heard, SILENT};

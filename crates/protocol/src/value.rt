@@ -3,7 +3,7 @@ ghost use Rattle.std.specs.Ordering.{partial_lt};
 ghost use Rattle.protocol.specs.Kind.{Kind, Lawful, value_of};
 
 /// A kind of value that stations vote on.
-pub trait Value: Copy + Ord {
+pub trait Value: Copy {
     ghost kind: { Kind Self };
 
     // `From` and `TryFrom` would be no plainer: each has a ghost member of its own for what `kind` says of both ways.
@@ -24,11 +24,8 @@ pub trait Value: Copy + Ord {
     }
 
     /// Whether this value comes before the other; of two different ones exactly one does.
-    final fn less(self, other: Self) -> bool
-        ensures { result ≡ kind.less self other }
-    {
-        self < other
-    }
+    fn less(self, other: Self) -> bool
+        ensures { result ≡ kind.less self other };
 
     /// The least value, which stands where nothing was entered or settled.
     fn rest() -> Self
@@ -36,11 +33,20 @@ pub trait Value: Copy + Ord {
 
     // A member below the last `fn` is a law: each implementation proves it, and generic code may rest on it. Further up
     // it would be data, of which nothing is known.
+    ghost lawful: { Lawful kind };
+}
+
+/// A kind of value that Rust compares as the kind orders it. No vote asks for that: votes compare by `less`.
+pub trait OrderedValue: Value + Ord {
+    /// Whether this value comes before the other, by Rust's `<`.
+    final fn before(self, other: Self) -> bool
+        ensures { result ≡ Self.kind.less self other }
+    {
+        self < other
+    }
 
     // the order of the kind is the one by which Rust compares
-    ghost ordered: { (a b : Self) → partial_lt Self.partial_cmp a b ≡ kind.less a b };
-
-    ghost lawful: { Lawful kind };
+    ghost ordered: { (a b : Self) → partial_lt Self.partial_cmp a b ≡ Self.kind.less a b };
 }
 
 /// The laws of a kind of value, which every implementation of `Value` has proved.

@@ -3,12 +3,13 @@ use Rattle.std.specs.Prelude.{◌≡◌, ℕ, ◌+◌, ◌*◌, ◌/◌, ◌%◌
 use Rattle.std.specs.Int.Signed.{non_neg}
 use Rattle.std.specs.Result.{result_ok}
 use Rattle.std.specs.declared.cmp.Ordering.{Ordering}
-use Rattle.std.specs.Ordering.{is_lt, nat_cmp, on}
+use Rattle.std.specs.Ordering.{nat_cmp, on}
 use Rattle.std.specs.Cmp.Lexicographic.{slice_cmp}
 use Rattle.std.proofs.lemmas.Bool.{leb-true}
 use Rattle.protocol.specs.Kind.{Kind}
 use Rattle.protocol.specs.declared.refusal.Refusal.{Refusal}
 use Rattle.protocol.specs.declared.refusal.Refusal.TheVariants.{Pressure, Speed}
+use Rattle.values.specs.Lexical.{lex_less}
 use Rattle.values.specs.Limits.{max_pressure, max_speed}
 use Rattle.values.specs.declared.point.Point.{Point}
 
@@ -46,14 +47,14 @@ point_key p =
     let size = unsigned_abs p.speed in
     (p.pressure * size) ∷ (p.pressure ∷ (size ∷ (cond (non_neg p.speed) 1 0 ∷ [])))
 
--- the first place where their keys differ decides
-abbrev pub point_cmp : Point → Point → Ordering
-point_cmp = on point_key (slice_cmp nat_cmp)
-
 abbrev pub point_kind : Kind Point
 point_kind = record {
   word = point_word;
   reads = point_reads;
-  less = λ p q. is_lt (point_cmp p q);
+  less = λ p q. lex_less (point_key p) (point_key q);
   rest = rest_point;
 }
+
+-- the same order as one comparison, which is how Rust has it
+abbrev pub point_cmp : Point → Point → Ordering
+point_cmp = on point_key (slice_cmp nat_cmp)

@@ -1,6 +1,6 @@
 -- Operating points are a lawful kind of value.
-use Rattle.std.specs.Prelude.{◌≡◌, ℕ, ◌*◌, ◌/◌, ◌%◌, ◌≤◌, Bool, true, false, cond, ◌⊎◌, [], ◌∷◌, ℤ, pos, negsuc, ◌-ℤ◌, Some, Ok, ◌≢◌, ◌&&◌, nat_le, nat_eq, unsigned_abs, refl}
-use Rattle.std.proofs.Common.{ap, sym, ◌∙◌, inl, inr, arith}
+use Rattle.std.specs.Prelude.{◌≡◌, ℕ, ◌*◌, ◌/◌, ◌%◌, ◌≤◌, Bool, true, false, cond, [], ◌∷◌, ℤ, pos, negsuc, ◌-ℤ◌, Some, Ok, ◌≢◌, ◌&&◌, nat_le, nat_eq, unsigned_abs, refl}
+use Rattle.std.proofs.Common.{ap, sym, ◌∙◌, ⊎_elim, arith}
 use mathlib.Core.HLevel.{is_prop→PathP, ×_prop}
 use Rattle.std.proofs.Math.Bridge.{le_prop}
 use Rattle.std.specs.Int.Signed.{non_neg}
@@ -10,14 +10,14 @@ use Rattle.std.proofs.lemmas.Bool.Decides.{nat_tests, Decides-and}
 use Rattle.std.specs.Result.{result_ok}
 use Rattle.std.specs.Bool.{Decides, one_answer}
 use Rattle.std.specs.Cmp.{IsTotalOrder, Equal-is, unsigned_Decides, signed_Decides}
-use Rattle.std.specs.Cmp.Lexicographic.{slice_cmp}
 use Rattle.std.proofs.lemmas.Map.Lookups.{exact_bytes}
-use Rattle.std.specs.declared.cmp.Ordering.{Ordering}
-use Rattle.std.specs.declared.cmp.Ordering.TheVariants.{Less, Equal, Greater}
-use Rattle.std.specs.Ordering.{nat_cmp, int_eq, is_lt, is_eq, ordering_reverse}
+use Rattle.std.specs.declared.cmp.Ordering.TheVariants.{Equal}
+use Rattle.std.specs.Ordering.{int_eq, is_lt, is_eq}
 use Rattle.std.proofs.lemmas.Cmp.{on_total, nat_list_cmp_total, tied_itself}
 use Rattle.protocol.specs.Kind.{Lawful}
 use Rattle.values.specs.declared.point.Point.{Point}
+use Rattle.values.specs.Lexical.{lex_less}
+use Rattle.values.specs.LexicalLaw.{lex_irreflexive, lex_transitive, lex_total, lex_compares}
 use Rattle.values.specs.Limits.{max_pressure, max_speed, Limits}
 use Rattle.values.specs.PointKind.{made, new_point, point_word, point_reads, rest_point, point_key, point_cmp, point_kind}
 
@@ -85,7 +85,7 @@ same_from_key p q e = same_point p q (cc) (same_speed p.speed q.speed (cc) (cc))
 
 -- nothing is below the key of rest, and nothing else has that key
 rest_below : (a b c d : ℕ) → d ≤ 1 → (b ≡ 0 → c ≡ 0 → d ≢ 1) → (c ≡ 0 → d ≡ 1) →
-    is_lt (slice_cmp nat_cmp (point_key rest_point) (a ∷ (b ∷ (c ∷ (d ∷ []))))) ≡ true
+    lex_less (point_key rest_point) (a ∷ (b ∷ (c ∷ (d ∷ [])))) ≡ true
 rest_below a b c d small n z = grind (arith, nat_tests)
 
 sign_small : (s : ℤ) → cond (non_neg s) 1 0 ≤ 1
@@ -96,7 +96,7 @@ sign_zero : (s : ℤ) → unsigned_abs s ≡ 0 → ◌≡◌ {A = ℕ} (cond (no
 sign_zero (pos n) e = refl
 sign_zero (negsuc n) e = cc
 
-rest_least : (p : Point) → (p ≢ rest_point) → is_lt (point_cmp rest_point p) ≡ true
+rest_least : (p : Point) → (p ≢ rest_point) → lex_less (point_key rest_point) (point_key p) ≡ true
 rest_least p n =
     rest_below (p.pressure * unsigned_abs p.speed) p.pressure (unsigned_abs p.speed) (cond (non_neg p.speed) 1 0)
     (sign_small p.speed)
@@ -107,14 +107,12 @@ rest_least p n =
 pub point_total : IsTotalOrder point_cmp
 point_total = on_total point_key nat_list_cmp_total
 
+-- Rust's `<` on points is the order of the kind
+pub point_less : (p q : Point) → is_lt (point_cmp p q) ≡ point_kind.less p q
+point_less p q = lex_compares (point_key p) (point_key q) refl
+
 same_by_order : (p q : Point) → point_cmp p q ≡ Equal → p ≡ q
 same_by_order p q e = same_from_key p q (exact_bytes _ _ e)
-
-one_less : (p q : Point) → (p ≢ q) → (o : Ordering) → point_cmp p q ≡ o →
-    (is_lt o ≡ true) ⊎ (is_lt (ordering_reverse o) ≡ true)
-one_less p q n Less e = inl refl
-one_less p q n Equal e = absurd (n (same_by_order p q e))
-one_less p q n Greater e = inr refl
 
 -- two points are the same if `==` holds, which looks at both numbers, and if neither is less
 fields_decide : (p q : Point) → Decides (nat_eq p.pressure q.pressure && int_eq p.speed q.speed) (p ≡ q)
@@ -128,11 +126,6 @@ order_decides p q = (
   λ e. ap is_eq (ap (point_cmp p) (sym e) ∙ tied_itself point_total p),
 )
 
-is_less : (o : Ordering) → is_lt o ≡ true → o ≡ Less
-is_less Less e = refl
-is_less Equal e = cc
-is_less Greater e = cc
-
 pub point_ties : (p q : Point) → (nat_eq p.pressure q.pressure && int_eq p.speed q.speed) ≡ is_eq (point_cmp p q)
 point_ties p q = one_answer {P = p ≡ q} _ _ (fields_decide p q) (order_decides p q)
 
@@ -141,8 +134,9 @@ points_lawful = record {
   reads_word = reads_word;
   word_reads = word_reads;
   silence = refl;
-  total = λ p q n. rw (point_total.antisymm q p) (one_less p q n (point_cmp p q) refl);
-  irreflexive = λ p. ap is_lt (tied_itself point_total p);
-  transitive = λ p q r a b. ap is_lt (point_total.trans p q r (is_less _ a) (is_less _ b));
+  total = λ p q n. ⊎_elim
+      (λ e. absurd (n (same_from_key p q e))) (λ h. h) (lex_total (point_key p) (point_key q) refl);
+  irreflexive = λ p. lex_irreflexive (point_key p);
+  transitive = λ p q r. lex_transitive (point_key p) (point_key q) (point_key r);
   rest_least = rest_least;
 }

@@ -2,7 +2,7 @@ ghost use Rattle.std.specs.Prelude.{◌≡◌};
 ghost use Rattle.values.specs.SwitchKind.{switch_kind, switch_of};
 ghost use Rattle.std.proofs.Common.{rules};
 
-use protocol::Value;
+use protocol::{OrderedValue, Value};
 
 /// Whether the next load stage is held or begun.
 #[derive(Clone, Copy, PartialEq, Eq, PartialOrd, Ord, Debug)]
@@ -22,8 +22,6 @@ impl From<bool> for Switch {
 impl Value for Switch {
     ghost kind = { switch_kind };
 
-    ghost ordered = { Prim.search rules };
-
     ghost lawful = { Prim.search rules };
 
     // the two words are fixed by the rules
@@ -42,9 +40,18 @@ impl Value for Switch {
         }
     }
 
+    // in each kind that has `Ord`: by the rules `Value` cannot ask for it
+    fn less(self, other: Switch) -> bool {
+        self < other
+    }
+
     fn rest() -> Switch {
         Self::Hold
     }
+}
+
+impl OrderedValue for Switch {
+    ghost ordered = { Prim.search rules };
 }
 
 #[cfg(test)]
@@ -57,6 +64,7 @@ mod tests {
         assert_eq!(rt; Switch::rest(), Switch::Hold);
         assert!(rt; Switch::Hold.less(Switch::Go));
         assert!(rt; !Switch::Go.less(Switch::Hold));
+        assert!(rt; Switch::Hold.before(Switch::Go));
         assert_eq!(rt; Switch::read(Switch::Go.word()), Some(Switch::Go));
         assert_eq!(rt; Switch::read(2), None);
         assert_eq!(rt; Switch::read(SILENT), None);

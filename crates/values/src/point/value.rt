@@ -1,14 +1,14 @@
-ghost use Rattle.std.specs.Prelude.{◌≡◌, Ok, unsigned_abs, refl};
+ghost use Rattle.std.specs.Prelude.{◌≡◌, Ok, slice_index};
 ghost use Rattle.std.proofs.Common.{rules};
 ghost use Rattle.std.specs.Cmp.{partial_order_from_own_ties};
 ghost use Rattle.std.specs.Cmp.Rules.{comparing};
 ghost use Rattle.std.specs.Ordering.{as_partial_cmp};
 ghost use Rattle.values.specs.Limits.{Limits};
 ghost use Rattle.values.specs.PointKind.{point_kind, point_key, point_cmp, new_point};
-ghost use Rattle.values.specs.PointLaw.{points_lawful, point_total, point_ties};
+ghost use Rattle.values.specs.PointLaw.{points_lawful, point_less, point_total, point_ties};
 
 use crate::point::Point;
-use protocol::{Refusal, Value};
+use protocol::{OrderedValue, Refusal, Value};
 use std::cmp::Ordering;
 
 impl Point {
@@ -48,15 +48,17 @@ impl Point {
     }
 
     // What decides which of two points is less, in this order: the load, the pressure, the speed without its sign, and
-    // at last the sign, the negative one being less.
-    fn key(self) -> [u32; 4]
-        ensures { result ≡ point_key self }
+    // at last the sign, the negative one being less. A tuple: an array is compared as a slice of any length, in twice
+    // the time.
+    fn key(self) -> (u32, u32, u32, u32)
+        ensures { let key = point_key self in
+            result ≡ (slice_index key 0, slice_index key 1, slice_index key 2, slice_index key 3) }
     {
         let (pressure, size) = (
             u32::from(self.pressure),
             u32::from(i16::unsigned_abs(self.speed)),
         );
-        [pressure * size, pressure, size, u32::from(self.speed >= 0)]
+        (pressure * size, pressure, size, u32::from(self.speed >= 0))
     }
 }
 
@@ -87,8 +89,6 @@ impl PartialOrd for Point {
 impl Value for Point {
     ghost kind = { point_kind };
 
-    ghost ordered = { λ a b. refl };
-
     ghost lawful = { points_lawful };
 
     fn word(self) -> u64 {
@@ -105,9 +105,18 @@ impl Value for Point {
         Some(Point::within(pressure as u16, offset as i16 - 6000))
     }
 
+    // in each kind that has `Ord`: by the rules `Value` cannot ask for it
+    fn less(self, other: Point) -> bool {
+        self < other
+    }
+
     fn rest() -> Point {
         Point::within(0, 0)
     }
+}
+
+impl OrderedValue for Point {
+    ghost ordered = { point_less };
 }
 
 #[cfg(test)]
